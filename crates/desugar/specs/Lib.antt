@@ -1,0 +1,9 @@
+-- Desugaring, and what terms and cores mean. Read in this order.
+pub mod Bindings
+pub mod Meter
+pub mod Rules
+pub mod Leaves
+pub mod Negation
+pub mod Desugar
+pub mod Packets
+pub mod Answered

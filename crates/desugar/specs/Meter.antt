@@ -1,0 +1,28 @@
+-- Draws on an allowance (document 01, "Walking rules": "A draw is the count of core nodes that a step makes").
+use mathlib.Core.Bool.{cond}
+use Prim.Native.Nat.{ℕ, _+_, _-_}
+use lib.Dec.{leb}
+use Rattle.expr.specs.Answers.{Answer, ok, refuse, andThen}
+
+-- what has been drawn so far, without limit; or what is left of an allowance
+pub data Meter : Type 0 where
+  spent : ℕ → Meter
+  left : ℕ → Meter
+
+-- a step that may draw
+abbrev pub Draws : Type 0 → Type 0
+Draws A = Meter → Answer (A × Meter)
+
+infixl 20 _>>=_
+abbrev pub _>>=_ : {A B : Type 0} → Draws A → (A → Draws B) → Draws B
+_>>=_ m f = λ k. andThen (m k) (λ r. f (r .0) (r .1))
+
+-- a step that draws nothing
+abbrev pub lift : {A : Type 0} → Answer A → Draws A
+lift (ok a) k = ok (a, k)
+lift (refuse r at) k = refuse r at
+
+-- "24 a draw beyond the allowance". "The drawn total is the sum of those draws in walking order." Draw n at a place, and give a
+abbrev pub drawing : {A : Type 0} → ℕ → ℕ → A → Draws A
+drawing n at a (spent k) = ok (a, spent (k + n))
+drawing n at a (left k) = cond (leb n k) (ok (a, left (k - n))) (refuse 24 at)

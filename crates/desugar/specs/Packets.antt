@@ -1,0 +1,124 @@
+-- What terms and cores mean: relations between packets (document 01, "Packet meaning").
+use mathlib.Core.Path.{_≡_}
+use mathlib.Core.Logic.{_⊎_}
+use mathlib.Core.Bool.{Bool, true, false, cond, not, _&&_, _||_}
+use mathlib.Core.Option.{Option, none, some}
+use mathlib.Core.List.{List, [], _∷_}
+use Prim.Native.Nat.{ℕ, zero, suc, _+_, _-_}
+use lib.Dec.{leb, ltb, eqb}
+use Rattle.literals.specs.Bits.{Bits, valueOf, bitAt}
+use Rattle.literals.specs.Patterns.{Pattern, HoldsOf}
+use Rattle.expr.specs.Terms.{Atom, Zero, One, Top, Dup, End, Assign, Test, Op2, Union, Intersect, Xor, Difference, Sequence, LtlUntil, Op1, Complement, Star, LtlNext, Core, leaf, one, two, Use, Assigns, Tests, Matches, Expr, Plain, Unary, Binary, TestNegation, IfThenElse, Let, LetBitRange, Var, Ranged, atomKind, op1Kind, op2Kind}
+use Rattle.desugar.specs.Bindings.{Env, variable, range, lookupVariable, findRange}
+
+-- "A packet gives every field number a bit"
+abbrev pub Packet : Type 0
+Packet = ℕ → Bool
+
+abbrev pub Relation : Type 1
+Relation = Packet → Packet → Type 0
+
+-- "a range's value has its lowest bit at the lowest field": the bits and the value of the n fields from s
+abbrev pub fieldBits : Packet → ℕ → ℕ → Bits
+fieldBits p s zero = []
+fieldBits p s (suc n) = p s ∷ fieldBits p (suc s) n
+
+abbrev pub fieldValue : Packet → ℕ → ℕ → ℕ
+fieldValue p s n = valueOf (fieldBits p s n)
+
+-- "q is p with that bit given the value", "likewise, for the whole range"
+abbrev pub withField : Packet → ℕ → Bool → Packet
+withField p f b = λ g. cond (eqb g f) b (p g)
+
+abbrev pub withRange : Packet → ℕ → ℕ → ℕ → Packet
+withRange p s n v = λ g. cond (leb s g && ltb g (s + n)) (bitAt (g - s) v) (p g)
+
+-- "Star in zero or more rounds"
+pub data Rounds (R : Relation) : Packet → Packet → Type 0 where
+  done : {p q : Packet} → p ≡ q → Rounds R p q
+  more : {p q r : Packet} → R p q → Rounds R q r → Rounds R p r
+
+-- "One-step kinds are all but Top, Dup, End, Complement, LtlNext, LtlUntil.": 2, 3, 4, 13, 15 and 12
+abbrev pub oneStep : ℕ → Bool
+oneStep k = not (eqb k 2 || eqb k 3 || eqb k 4 || eqb k 13 || eqb k 15 || eqb k 12)
+
+-- what the other kinds mean is not said: any meaning of them will do
+pub record Others : Type 1 where
+  pub top : Relation
+  pub dup : Relation
+  pub end : Relation
+  pub complement : Relation → Relation
+  pub next : Relation → Relation
+  pub until : Relation → Relation → Relation
+
+module _ (others : Others) where
+  -- "Zero never; One if equal; Test if equal and the bit agrees; Assign if q is p with that bit given the value"
+  abbrev pub atomMeans : Atom → Relation
+  atomMeans Zero p q = ⊥
+  atomMeans One p q = p ≡ q
+  atomMeans Top p q = others .top p q
+  atomMeans Dup p q = others .dup p q
+  atomMeans End p q = others .end p q
+  atomMeans (Assign f v) p q = q ≡ withField p f v
+  atomMeans (Test f v) p q = (p ≡ q) × (p f ≡ v)
+
+  abbrev pub op1Means : Op1 → Relation → Relation
+  op1Means Complement R p q = others .complement R p q
+  op1Means Star R p q = Rounds R p q
+  op1Means LtlNext R p q = others .next R p q
+
+  -- "Union, Intersect, Xor, Difference by logic; Sequence through some packet"
+  abbrev pub op2Means : Op2 → Relation → Relation → Relation
+  op2Means Union R S p q = R p q ⊎ S p q
+  op2Means Intersect R S p q = R p q × S p q
+  op2Means Xor R S p q = (R p q × ¬ S p q) ⊎ (¬ R p q × S p q)
+  op2Means Difference R S p q = R p q × ¬ S p q
+  op2Means Sequence R S p q = (r : Packet) × R p r × S r q
+  op2Means LtlUntil R S p q = others .until R S p q
+
+  abbrev pub coreMeans : Core → Relation
+  coreMeans (leaf a) = atomMeans a
+  coreMeans (one o c) = op1Means o (coreMeans c)
+  coreMeans (two o a b) = op2Means o (coreMeans a) (coreMeans b)
+
+  -- "range and alias assignment likewise, for the whole range; range and alias tests and matches if equal and the range's value
+  -- is the literal, ..": the n fields from s
+  abbrev pub useMeans : Use → ℕ → ℕ → Relation
+  useMeans (Assigns a) s n p q = q ≡ withRange p s n (valueOf a)
+  useMeans (Tests a) s n p q = (p ≡ q) × (fieldValue p s n ≡ valueOf a)
+  useMeans (Matches m) s n p q = (p ≡ q) × HoldsOf m n (fieldValue p s n)
+
+  -- of an unknown alias, and of an unbound variable below: nothing. Rules 11 to 13 refuse these
+  abbrev pub rangeMeans : Use → Option (ℕ × ℕ) → Relation
+  rangeMeans u (some r) p q = useMeans u (r .0) (r .1 - r .0) p q
+  rangeMeans u none p q = ⊥
+
+  abbrev pub variableMeans : Option Relation → Relation
+  variableMeans (some R) p q = R p q
+  variableMeans none p q = ⊥
+
+  -- "negation if equal and the operand doesn't relate p to itself; If by its then branch where the condition relates p to itself,
+  -- elsewhere by its else branch; Let and LetBitRange as their body does under the new binding; Var as its definition does under
+  -- the bindings around its Let." The written meaning, under what the variables around mean
+  abbrev pub means : Env Relation → Expr → Relation
+  means env (Plain a) p q = atomMeans a p q
+  means env (Unary o e) p q = op1Means o (means env e) p q
+  means env (Binary o a b) p q = op2Means o (means env a) (means env b) p q
+  means env (TestNegation e) p q = (p ≡ q) × ¬ means env e p p
+  means env (IfThenElse c t e) p q = (means env c p p × means env t p q) ⊎ (¬ means env c p p × means env e p q)
+  means env (Let x d b) p q = means (variable x (means env d) ∷ env) b p q
+  means env (LetBitRange x s e b) p q = means (range x s e ∷ env) b p q
+  means env (Var x) p q = variableMeans (lookupVariable env x) p q
+  means env (Ranged w u) p q = rangeMeans u (findRange env w) p q
+
+-- only one-step kinds
+abbrev pub OneStep : Expr → Type 0
+OneStep (Plain a) = oneStep (atomKind a) ≡ true
+OneStep (Unary o e) = (oneStep (op1Kind o) ≡ true) × OneStep e
+OneStep (Binary o a b) = (oneStep (op2Kind o) ≡ true) × OneStep a × OneStep b
+OneStep (TestNegation e) = OneStep e
+OneStep (IfThenElse c t e) = OneStep c × OneStep t × OneStep e
+OneStep (Let x d b) = OneStep d × OneStep b
+OneStep (LetBitRange x s e b) = OneStep b
+OneStep (Var x) = Unit {0}
+OneStep (Ranged w u) = Unit {0}

@@ -1,0 +1,4 @@
+-- Literals and patterns. Read in this order.
+pub mod Bits
+pub mod Patterns
+pub mod Reading

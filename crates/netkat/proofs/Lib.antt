@@ -1,0 +1,8 @@
+-- Laws of the definitions and the theorems of demand 3.
+pub mod CheckWalk
+pub mod Agree
+pub mod Inside
+pub mod Rules
+pub mod AtPoint
+pub mod Whole
+pub mod Theorems

@@ -1,0 +1,130 @@
+-- The theorems on the definitions, in the order in which document 01 asks for them. A reviewer reads the statements here first; each
+-- proof is a line that cites the laws beside this file and in the crates below.
+use mathlib.Core.Path.{_≡_, refl, sym, ap, _∙_}
+use mathlib.Core.Logic.{_↔_}
+use mathlib.Core.Bool.{Bool, true, false}
+use mathlib.Core.List.{List, [], _∷_, _++_, map, List·Memᴰ}
+use Prim.Native.Nat.{ℕ, _+_, _-_, _≤_, _<_}
+use native.Mathlib.Nat.{zero-add}
+use lib.ListN.{length, getD}
+use Rattle.literals.specs.Bits.{Bits, bitAt, valueOf}
+use Rattle.literals.specs.Patterns.{Cidr, Exact, IpRange, Wildcard}
+use Rattle.expr.specs.Answers.{andThen, mapAnswer, ok}
+use Rattle.expr.specs.Terms.{Assigns, Core, Expr, Matches, Tests, Where, records}
+use Rattle.desugar.specs.Bindings.{Env}
+use Rattle.desugar.specs.Desugar.{desugarBytes}
+use Rattle.desugar.specs.Leaves.{useCore}
+use Rattle.desugar.specs.Negation.{isTest}
+use Rattle.desugar.specs.Packets.{OneStep, Others, Packet, coreMeans}
+use Rattle.desugar.specs.Rules.{rangeRule}
+use Rattle.desugar.proofs.Limit.{Limit, limit}
+use Rattle.desugar.proofs.Patterns.{Sets, TestsFor, assign-form, match-form, test-form}
+use Rattle.desugar.proofs.Probes.{asked, starred, starred-probes}
+use Rattle.netkat.specs.Check.{RulesHold, check, checkBytes, firstFailure, sorts, testSort}
+use Rattle.netkat.specs.Points.{OneSteps, Point, Scope, definitions, desugarAt, meansAt, walk}
+use Rattle.netkat.proofs.AtPoint.{desugar-at-answers, desugar-at-means, desugar-at-succeeds}
+use Rattle.netkat.proofs.Inside.{PointAt, each-record, inside-points, walk-inside, walk-length}
+use Rattle.netkat.proofs.Rules.{behind-rule, none-fails, rules-append}
+use Rattle.netkat.proofs.Whole.{Desugared, Desugars, Good, check-bytes, desugar-bytes, desugared-bytes}
+
+-- ## Demand 2: each form holds of, or sets, exactly its values
+
+-- Where the rules on its range hold, the core of each form, by itself: of packets, and of the values that the range can have
+-- (desugar/proofs/Patterns.antt: TestsFor and Sets). `others` is any meaning of the kinds that are not one-step.
+module _ (others : Others) (w : Where) (s e at : ℕ) where
+  -- "the range's value is the literal"
+  pub test-theorem : (a : Bits) → rangeRule w (Tests a) (s, e) at ≡ ok tt
+      → TestsFor others (useCore (Tests a) s (e - s)) s e (λ v. v ≡ valueOf a)
+  test-theorem = test-form others w s e at
+
+  -- "q is p with that bit given the value; range and alias assignment likewise, for the whole range"
+  pub assign-theorem : (a : Bits) → rangeRule w (Assigns a) (s, e) at ≡ ok tt
+      → Sets others (useCore (Assigns a) s (e - s)) s e (valueOf a)
+  assign-theorem = assign-form others w s e at
+
+  pub exact-theorem : (a : Bits) → rangeRule w (Matches (Exact a)) (s, e) at ≡ ok tt
+      → TestsFor others (useCore (Matches (Exact a)) s (e - s)) s e (λ v. v ≡ valueOf a)
+  exact-theorem a = match-form others w s e at (Exact a)
+
+  -- "agrees in the prefix bits": the k highest of e - s
+  pub cidr-theorem : (a : Bits) (k : ℕ) → rangeRule w (Matches (Cidr a k)) (s, e) at ≡ ok tt
+      → TestsFor others (useCore (Matches (Cidr a k)) s (e - s)) s e (λ v. (i : ℕ) → e - s - k ≤ i → i < e - s → bitAt i v ≡ getD a i false)
+  cidr-theorem a k = match-form others w s e at (Cidr a k)
+
+  -- "agrees where the mask is false"
+  pub wildcard-theorem : (a m : Bits) → rangeRule w (Matches (Wildcard a m)) (s, e) at ≡ ok tt
+      → TestsFor others (useCore (Matches (Wildcard a m)) s (e - s)) s e
+      (λ v. (i : ℕ) → i < e - s → getD m i false ≡ false → bitAt i v ≡ getD a i false)
+  wildcard-theorem a m = match-form others w s e at (Wildcard a m)
+
+  -- "lies between the bounds, both included"
+  pub ip-range-theorem : (a b : Bits) → rangeRule w (Matches (IpRange a b)) (s, e) at ≡ ok tt
+      → TestsFor others (useCore (Matches (IpRange a b)) s (e - s)) s e (λ v. (valueOf a ≤ v) × (v ≤ valueOf b))
+  ip-range-theorem a b = match-form others w s e at (IpRange a b)
+
+-- ## The allowance
+
+-- What desugaring draws in all, up to its result or to the rule that fails, is a threshold: with an allowance of at least that the
+-- answer is the one without limit and that much is taken; with less it is 24 (desugar/proofs/Limit.antt: Limit)
+pub limit-theorem : (env : Env Core) (e : Expr) (at : ℕ) → (N : ℕ) × Limit env e at N
+limit-theorem = limit
+
+-- ## Demand 3: at any point of any term
+
+-- For the subterm e that begins at a record, with the Lets and LetBitRanges sc around it
+pub record AtPoint (others : Others) (sc : Scope) (e : Expr) (at : ℕ) : Type 0 where
+  -- "the check's rules hold exactly when desugaring there is not refused": at each record of the definitions around, and of the subterm
+  pub succeeds : ((c : Core) × (desugarAt sc e at ≡ ok c)) ↔ (RulesHold (definitions sc) × RulesHold (walk sc e at))
+  -- where the definitions around pass, the subterm's own rules decide
+  pub passing : RulesHold (definitions sc) → ((c : Core) × (desugarAt sc e at ≡ ok c)) ↔ RulesHold (walk sc e at)
+  -- "It is refused where one of 11 to 23 first fails"; else its core is a test exactly where the written subterm is of that sort
+  pub answers : mapAnswer isTest (desugarAt sc e at) ≡ andThen (firstFailure (definitions sc ++ walk sc e at)) (λ _. ok (testSort (sorts sc) e))
+  -- "the core means what was written there, for every two packets"
+  pub means : OneSteps sc → OneStep e → (c : Core) → desugarAt sc e at ≡ ok c → (p q : Packet) → coreMeans others c p q ↔ meansAt others sc e p q
+
+pub at-any-point : (others : Others) (sc : Scope) (e : Expr) (at : ℕ) → AtPoint others sc e at
+at-any-point others sc e at =
+    record {
+      succeeds = desugar-at-succeeds sc e at;
+      passing = λ h. (
+        (λ c. desugar-at-succeeds sc e at .0 c .1),
+        (λ k. desugar-at-succeeds sc e at .1 (h, k)),
+      );
+      answers = desugar-at-answers sc e at;
+      means = desugar-at-means others sc e at;
+    }
+
+-- the points of a term are as many as its records, and each record is the place of one
+pub points-are-records : (e : Expr) → (length (walk [] e 0) ≡ records e) × ((i : ℕ) → i < records e → PointAt (walk [] e 0) i)
+points-are-records e = (walk-length [] e 0, λ i h. rw (zero-add i) at (each-record [] e 0 i h))
+
+-- where Check succeeds on a whole term, desugaring succeeds at each of its points
+pub everywhere : (e : Expr) (s : Bool) → check [] e 0 ≡ ok s → (p : Point) → List·Memᴰ p (walk [] e 0)
+    → (c : Core) × (desugarAt (p .scope) (p .term) (p .place) ≡ ok c)
+everywhere e s h p m =
+    let r : RulesHold (walk [] e 0) = none-fails (walk [] e 0) .0 (behind-rule (firstFailure (walk [] e 0)) h .0) in
+    desugar-at-succeeds (p .scope) (p .term) (p .place) .1
+    (rules-append (definitions (p .scope)) (walk (p .scope) (p .term) (p .place)) .0
+    (λ q n. r q (inside-points (walk-inside [] e 0 p m) q n)))
+
+-- ## The whole term on its bytes, whatever the allowance and the buffers
+
+-- "Check .. succeeds exactly where the form is good and rules 11 to 23 hold at every record"
+pub check-theorem : (bs : List ℕ) → ((s : Bool) × (checkBytes bs ≡ ok s)) ↔ ((e : Expr) × Good bs e)
+check-theorem = check-bytes
+
+-- "where Check succeeds, Desugar succeeds or answers 9, 10, 24 or 26, each only for its cause above" (Whole.antt: Desugars, Outcome)
+pub desugar-theorem : (bs : List ℕ) (s : Bool) → checkBytes bs ≡ ok s → (e : Expr) × Desugars bs e
+desugar-theorem bs s h = let g = check-bytes bs .0 (s, h) in (g .0, desugar-bytes bs (g .0) (g .1))
+
+-- "where Desugar succeeds, Check refuses by neither form nor rule, and the bytes Desugar wrote are those of the core made without limit"
+pub desugared-theorem : (bs : List ℕ) (n work room : ℕ) (out : List ℕ) (m : ℕ) → desugarBytes bs n work room ≡ ok (out, m)
+    → ((s : Bool) × (checkBytes bs ≡ ok s)) × Desugared bs out m
+desugared-theorem bs n work room out m h =
+    let d : Desugared bs out m = desugared-bytes bs n work room out m h in
+    (check-bytes bs .1 (d .term, d .good), d)
+
+-- ## The starred probes
+
+pub probes-theorem : map (λ p. asked (p .0)) starred ≡ map (λ p. ok (p .1)) starred
+probes-theorem = starred-probes

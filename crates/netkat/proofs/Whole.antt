@@ -1,0 +1,191 @@
+-- The whole term on its bytes: Check and Desugar beside each other, whatever the allowance and the buffers.
+use mathlib.Core.Path.{_≡_, refl, sym, ap, subst, _∙_}
+use mathlib.Core.Logic.{_↔_}
+use mathlib.Core.Bool.{Bool, true, false, _&&_, false≢true}
+use mathlib.Core.List.{List, [], _∷_}
+use Prim.Native.Nat.{ℕ, _+_, _-_, _≤_, _<_}
+use native.Mathlib.Nat.{zero-add}
+use native.Mathlib.Decide.{decLt}
+use native.Mathlib.Omega.{arith}
+use lib.Dec.{leb}
+use lib.ListN.{length}
+use Rattle.literals.proofs.Logic.{and-iff, leb-is, not-le-of}
+use Rattle.expr.specs.Answers.{Answer, andThen, need, ok, refuse}
+use Rattle.expr.specs.Form.{decode, encodeCore}
+use Rattle.expr.specs.Operations.{intoRoom}
+use Rattle.expr.specs.Terms.{Core, Expr}
+use Rattle.desugar.specs.Desugar.{desugar, desugarBytes, drawnOf, maxAllowance, workFor}
+use Rattle.desugar.specs.Meter.{Meter, left, spent}
+use Rattle.desugar.specs.Negation.{isTest}
+use Rattle.desugar.proofs.Limit.{Costs, desugar-costs, gives, stops}
+use Rattle.netkat.specs.Check.{RulesHold, check, checkBytes, firstFailure, testSort}
+use Rattle.netkat.specs.Points.{walk}
+use Rattle.netkat.proofs.Agree.{Seen, agree, refused, seen}
+use Rattle.netkat.proofs.AtPoint.{then-ok}
+use Rattle.netkat.proofs.CheckWalk.{check-is-walk, checkWalk}
+use Rattle.netkat.proofs.Rules.{behind-rule, check-succeeds, none-fails}
+
+-- the form is good, and rules 11 to 23 hold at every record
+pub record Good (bs : List ℕ) (e : Expr) : Type 0 where
+  pub form : decode bs ≡ ok e
+  pub rules : RulesHold (walk [] e 0)
+
+-- Check succeeds exactly there
+pub check-bytes : (bs : List ℕ) → ((s : Bool) × (checkBytes bs ≡ ok s)) ↔ ((e : Expr) × Good bs e)
+check-bytes bs = (
+  (λ h. let k = then-ok (decode bs) (λ e. check [] e 0) (h .0) (h .1) in
+      (k .0, record { form = k .1; rules = none-fails (walk [] (k .0) 0) .0 (behind-rule (firstFailure (walk [] (k .0) 0)) (k .2) .0) })),
+  (λ g. (
+    testSort [] (g .0),
+    ap (λ (x : Answer Expr). andThen x (λ e. check [] e 0)) (g .1 .form) ∙ check-succeeds [] (g .0) 0 .1 (g .1 .rules),
+  )),
+)
+
+-- ## What Desugar answers
+
+-- the causes of 9 and 10
+abbrev pub Allowed : ℕ → Type 0
+Allowed n = (1 ≤ n) × (n ≤ maxAllowance)
+
+-- on a term of good form and rules, whose core without limit is c with t drawn: success, or a refusal for its cause
+pub data Outcome (c : Core) (t n work room : ℕ) : Answer (List ℕ × ℕ) → Type 0 where
+  done : Allowed n → workFor n ≤ work → t ≤ n → length (encodeCore c) ≤ room → Outcome c t n work room (ok (encodeCore c, t))
+  allowance : ¬ Allowed n → Outcome c t n work room (refuse 9 0)
+  memory : work < workFor n → Outcome c t n work room (refuse 10 0)
+  beyond : (p : ℕ) → n < t → Outcome c t n work room (refuse 24 p)
+  long : room < length (encodeCore c) → Outcome c t n work room (refuse 26 0)
+
+-- a rule that holds or does not
+by-need : {A : Type 0} (P : Answer A → Type 0) (b : Bool) (r at : ℕ) (f : Unit {0} → Answer A)
+    → (b ≡ false → P (refuse r at)) → (b ≡ true → P (f tt)) → P (andThen (need b r at) f)
+by-need P true r at f no-case yes-case = yes-case refl
+by-need P false r at f no-case yes-case = no-case refl
+
+by-room : {A : Type 0} (P : Answer A → Type 0) (bs : List ℕ) (room : ℕ) (f : List ℕ → Answer A)
+    → (room < length bs → P (refuse 26 0)) → (length bs ≤ room → P (f bs)) → P (andThen (intoRoom bs room) f)
+by-room P bs room f no-case yes-case = go (leb (length bs) room) refl
+  where
+    go : (b : Bool) → leb (length bs) room ≡ b → P (andThen (andThen (need b 26 0) (λ _. ok bs)) f)
+    go true e = yes-case (leb-is (length bs) room .0 e)
+    go false e = no-case (not-le-of (length bs) room e)
+
+-- 9 and 10 come first, each for its cause
+by-limits : {A : Type 0} (P : Answer A → Type 0) (n work : ℕ) (x : Answer A)
+    → (¬ Allowed n → P (refuse 9 0)) → (work < workFor n → P (refuse 10 0)) → (Allowed n → workFor n ≤ work → P x)
+    → P (andThen (need (leb 1 n && leb n maxAllowance) 9 0) λ _. andThen (need (leb (workFor n) work) 10 0) λ _. x)
+by-limits P n work x nine ten other =
+    by-need P (leb 1 n && leb n maxAllowance) 9 0 _
+    (λ b. nine (λ h. false≢true (sym b ∙ allowed .1 h)))
+    (λ b. by-need P (leb (workFor n) work) 10 0 _
+    (λ c. ten (not-le-of (workFor n) work c))
+    (λ c. other (allowed .0 b) (leb-is (workFor n) work .0 c)))
+  where
+    allowed : ((leb 1 n && leb n maxAllowance) ≡ true) ↔ Allowed n
+    allowed = and-iff (leb 1 n) (leb n maxAllowance) (leb-is 1 n) (leb-is n maxAllowance)
+
+-- what follows once the form is read
+abbrev rest : Expr → ℕ → ℕ → Answer (List ℕ × ℕ)
+rest e n room = andThen (desugar [] e 0 (left n)) λ r. andThen (intoRoom (encodeCore (r .0)) room) λ out. ok (out, drawnOf n (r .1))
+
+-- the core without limit and what it draws
+abbrev pub Unlimited : Expr → Core → ℕ → Type 0
+Unlimited e c t = desugar [] e 0 (spent 0) ≡ ok (c, spent t)
+
+pub record Desugars (bs : List ℕ) (e : Expr) : Type 0 where
+  pub core : Core
+  pub drawn : ℕ
+  pub unlimited : Unlimited e core drawn
+  pub outcome : (n work room : ℕ) → Outcome core drawn n work room (desugarBytes bs n work room)
+
+-- a term of good form and rules has a core without limit, and Desugar's answer is one of the five
+pub desugar-bytes : (bs : List ℕ) (e : Expr) → Good bs e → Desugars bs e
+desugar-bytes bs e good = go (desugar-costs [] e 0) (agree [] e 0 0) (check-is-walk [] e 0 ∙ check-succeeds [] e 0 .1 (good .rules))
+  where
+    go : Costs (desugar [] e 0) → Seen isTest (desugar [] e 0 (spent 0)) (checkWalk [] e 0) → checkWalk [] e 0 ≡ ok (testSort [] e) → Desugars bs e
+    go (stops r p N s g l) w k = absurd (never (desugar [] e 0 (spent 0)) (checkWalk [] e 0) w (s 0) k)
+      where
+        never : (x : Answer (Core × Meter)) (y : Answer Bool) → Seen isTest x y → x ≡ refuse r p → y ≡ ok (testSort [] e) → ⊥
+        never x y (seen a k) i j = let z : _≡_ {A = ℕ} 0 1 = cc in absurd (omega arith)
+        never x y (refused q m) i j = let z : _≡_ {A = ℕ} 0 1 = cc in absurd (omega arith)
+    go (gives c t s g l) w k =
+        record {
+          core = c;
+          drawn = t;
+          unlimited = s 0 ∙ ap (λ m. ok (c, spent m)) (zero-add t);
+          outcome = λ n work room. by-limits (Outcome c t n work room) n work _ (λ h. allowance h) (λ h. memory h) (λ a m.
+              rw (good .form) (last n work room a m (decLt n t)));
+        }
+      where
+        last : (n work room : ℕ) → Allowed n → workFor n ≤ work → Dec (n < t) → Outcome c t n work room (rest e n room)
+        last n work room a m (yes q) = rw (l n q .1) (beyond (l n q .0) q)
+        last n work room a m (no q) =
+            let drawn : n - (n - t) ≡ t = omega arith in
+            rw (g n (omega arith))
+            (by-room (Outcome c t n work room) (encodeCore c) room (λ out. ok (out, n - (n - t)))
+            (λ h. long h)
+            (λ h. rw drawn (done a m (omega arith) h)))
+
+-- ## Where Desugar succeeds
+
+pair-of : {a b : List ℕ} {x y : ℕ} → _≡_ {A = Answer (List ℕ × ℕ)} (ok (a, x)) (ok (b, y)) → (a ≡ b) × (x ≡ y)
+pair-of {a} {b} {x} {y} e = let p : _≡_ {A = List ℕ × ℕ} (a, x) (b, y) = cc in (ap (λ r. r .0) p, ap (λ r. r .1) p)
+
+only-done : (c : Core) (t n work room : ℕ) {y : Answer (List ℕ × ℕ)} (out : List ℕ) (m : ℕ)
+    → Outcome c t n work room y → y ≡ ok (out, m) → (out ≡ encodeCore c) × (m ≡ t)
+only-done c t n work room out m (done _ _ p q) h = (sym (pair-of h .0), sym (pair-of h .1))
+only-done c t n work room out m (allowance p) h = let z : _≡_ {A = ℕ} 0 1 = cc in absurd (omega arith)
+only-done c t n work room out m (memory p) h = let z : _≡_ {A = ℕ} 0 1 = cc in absurd (omega arith)
+only-done c t n work room out m (beyond p q) h = let z : _≡_ {A = ℕ} 0 1 = cc in absurd (omega arith)
+only-done c t n work room out m (long p) h = let z : _≡_ {A = ℕ} 0 1 = cc in absurd (omega arith)
+
+-- with a limit or without, a success means that the rules hold at every record
+rules-of : (e : Expr) (n : ℕ) (r : Core × Meter) → desugar [] e 0 (left n) ≡ ok r → RulesHold (walk [] e 0)
+rules-of e n r h = go (desugar-costs [] e 0)
+  where
+    apart : {q p : ℕ} → desugar [] e 0 (left n) ≡ refuse q p → ⊥
+    apart k = let z : _≡_ {A = ℕ} 0 1 = cc in absurd (omega arith)
+
+    sees : {x : Answer (Core × Meter)} {y : Answer Bool} {c : Core} {t : ℕ} → Seen isTest x y → x ≡ ok (c, spent t) → (s : Bool) × (y ≡ ok s)
+    sees (seen a k) i = (isTest a, refl)
+    sees (refused q m) i = let z : _≡_ {A = ℕ} 0 1 = cc in absurd (omega arith)
+
+    go : Costs (desugar [] e 0) → RulesHold (walk [] e 0)
+    go (gives a N s g l) =
+        let k : (s : Bool) × (checkWalk [] e 0 ≡ ok s) = sees (agree [] e 0 0) (s 0) in
+        none-fails (walk [] e 0) .0 (behind-rule (firstFailure (walk [] e 0)) (sym (check-is-walk [] e 0) ∙ k .1) .0)
+    go (stops q p N s g l) = absurd (pick (decLt n N))
+      where
+        pick : Dec (n < N) → ⊥
+        pick (yes d) = apart (l n d .1)
+        pick (no d) = apart (g n (omega arith))
+
+pub record Desugared (bs : List ℕ) (out : List ℕ) (m : ℕ) : Type 0 where
+  pub term : Expr
+  pub good : Good bs term
+  pub core : Core
+  pub unlimited : Unlimited term core m
+  pub bytes : out ≡ encodeCore core
+
+-- the term is of good form and rules, and the answer is the core made without limit and what that draws
+pub desugared-bytes : (bs : List ℕ) (n work room : ℕ) (out : List ℕ) (m : ℕ) → desugarBytes bs n work room ≡ ok (out, m) → Desugared bs out m
+desugared-bytes bs n work room out m h =
+    let h₁ = then-ok (need (leb 1 n && leb n maxAllowance) 9 0) _ (out, m) h in
+    let h₂ = then-ok (need (leb (workFor n) work) 10 0) _ (out, m) (h₁ .2) in
+    let h₃ = then-ok (decode bs) (λ e. rest e n room) (out, m) (h₂ .2) in
+    finish (h₃ .0) (h₃ .1) (then-ok (desugar [] (h₃ .0) 0 (left n)) _ (out, m) (h₃ .2) .0) (then-ok (desugar [] (h₃ .0) 0 (left n)) _ (out, m) (h₃ .2) .1)
+  where
+    same : (e : Expr) (g : Good bs e) (d : Desugars bs e) → Desugared bs out m
+    same e g d =
+        let k : (out ≡ encodeCore (d .core)) × (m ≡ d .drawn) = only-done (d .core) (d .drawn) n work room out m (d .outcome n work room) h in
+        record {
+          term = e;
+          good = g;
+          core = d .core;
+          unlimited = d .unlimited ∙ ap (λ (t : ℕ). ok (d .core, spent t)) (sym (k .1));
+          bytes = k .0;
+        }
+
+    finish : (e : Expr) → decode bs ≡ ok e → (r : Core × Meter) → desugar [] e 0 (left n) ≡ ok r → Desugared bs out m
+    finish e f r d =
+        let g : Good bs e = record { form = f; rules = rules-of e n r d } in
+        same e g (desugar-bytes bs e g)
