@@ -2,7 +2,7 @@
 use mathlib.Core.Path.{_≡_, refl, sym, subst, ap, _∙_}
 use mathlib.Core.Logic.{_⊎_, inl, inr, _↔_, Iff·trans, Iff·rfl}
 use mathlib.Core.Bool.{Bool, true, false, cond, false≢true}
-use mathlib.Core.Option.{Option, none, some}
+use mathlib.Core.Option.{Option, none, some, Option·getD}
 use mathlib.Core.List.{List, [], _∷_}
 use Prim.Native.Nat.{ℕ, _+_, _-_, _≤_}
 use native.Mathlib.Omega.{arith}
@@ -15,7 +15,7 @@ use Rattle.desugar.specs.Desugar.{desugar}
 use Rattle.desugar.specs.Leaves.{useCore}
 use Rattle.desugar.specs.Meter.{Draws, Meter, _>>=_, drawing, left, lift, spent}
 use Rattle.desugar.specs.Negation.{isOne, isTest, join, joinDraw, negate}
-use Rattle.desugar.specs.Packets.{OneStep, Others, Packet, Relation, Rounds, coreMeans, done, means, more, oneStep, op1Means, op2Means, rangeMeans, useMeans, variableMeans}
+use Rattle.desugar.specs.Packets.{OneStep, Others, Packet, Relation, Rounds, coreMeans, done, means, more, oneStep, op1Means, op2Means, rangeMeans, useMeans}
 use Rattle.desugar.specs.Rules.{boundVariable, knownRange, rangeRule}
 use Rattle.desugar.proofs.Decides.{Decides, fails, holds, need-decides, range-decides}
 use Rattle.desugar.proofs.Patterns.{use-means}
@@ -156,7 +156,7 @@ module _ (others : Others) where
   range-gives w u none at = λ k. tt
 
   variable-gives : (o : Option Core) (R : Option Relation) (r : Option (ℕ × ℕ)) (at : ℕ) → BothMean o R
-      → Gives (λ c. coreMeans others c ≈ variableMeans others R) (lift (boundVariable o r at) >>= (λ c. drawing (size c) at c))
+      → Gives (λ c. coreMeans others c ≈ Option·getD R (λ p q. ⊥)) (lift (boundVariable o r at) >>= (λ c. drawing (size c) at c))
   variable-gives (some c) (some R) r at h = draw-gives (λ c. coreMeans others c ≈ R) (size c) at c h
   variable-gives (some c) none r at h = absurd h
   variable-gives none (some R) r at h = absurd h

@@ -1,14 +1,12 @@
 -- Bindings (document 01, "Walking rules"), and Subrange.
-use mathlib.Core.Bool.{Bool, cond, _&&_}
-use mathlib.Core.Option.{Option, none, some}
-use mathlib.Core.List.{List, [], _∷_}
+use mathlib.Core.{Bool.Bool, Bool.cond, Bool._&&_, Option.Option, Option.none, Option.some, List.List, List.[], List._∷_}
 use Prim.Native.Nat.{ℕ, _+_, _^_}
-use lib.Dec.{leb, ltb, eqb}
-use Rattle.expr.specs.Answers.{Answer, ok, andThen, need}
-use Rattle.expr.specs.Terms.{Name, Where, Direct, Alias}
+use lib.{Dec.leb, Dec.ltb, Dec.eqb}
+use Rattle.expr.specs.{Answers.Answer, Answers.ok, Answers.refuse, Answers.andThen, Answers.need, Terms.Name, Terms.Where, Terms.Direct, Terms.Alias}
+use Rattle.desugar.specs.declared.Subrange.{Subrange}
+use Rattle.desugar.specs.declared.Subrange.the-variants.{Fields, Outside}
 
--- a Let gives a variable an A, a LetBitRange gives an alias its range. What A is goes by the use: a core (desugaring), whether
--- it is a test (the check), a relation (the meaning), a definition with its place (a point)
+-- a Let gives a variable a value: a core, whether it is a test, a relation, or its definition. A LetBitRange gives an alias a range
 pub data Binding {ℓ} (A : Type ℓ) : Type ℓ where
   variable : Name → A → Binding A
   range : Name → ℕ → ℕ → Binding A
@@ -34,12 +32,13 @@ module _ {ℓ} {A : Type ℓ} where
   findRange env (Direct s e) = some (s, e)
   findRange env (Alias x) = lookupAlias env x
 
--- a sum that the Rust's `checked_add` gives
-abbrev pub addsUp : ℕ → ℕ → Bool
-addsUp a b = ltb (a + b) (2 ^ 32)
-
--- "28 exactly where `DesugarEnv::compute_subrange`, given a known alias, gives None; else its two field numbers."
+-- "Subrange of an alias range: 28 exactly where .. gives None": a `checked_add` that overflows, or a range that is not inside the alias
 abbrev pub computeSubrange : (aliasStart aliasEnd subStart subEnd : ℕ) → Answer (ℕ × ℕ)
 computeSubrange a b s e =
-    andThen (need (addsUp a s && (addsUp a e && (leb s e && leb (a + e) b))) 28 0) λ _.
+    andThen (need (ltb (a + s) (2 ^ 32) && (ltb (a + e) (2 ^ 32) && (leb s e && leb (a + e) b))) 28 0) λ _.
     ok (a + s, a + e)
+
+-- the paper's number and values for each case of the enum that `compute_subrange` answers
+abbrev pub subrangeAnswer : Subrange → Answer (ℕ × ℕ)
+subrangeAnswer (Fields s e) = ok (s, e)
+subrangeAnswer Outside = refuse 28 0

@@ -1,22 +1,12 @@
 -- From a term to its core, and Desugar on bytes (document 01, "Walking rules" and "Desugar").
-use mathlib.Core.Bool.{_&&_}
-use mathlib.Core.List.{List, [], _∷_}
+use mathlib.Core.{Bool._&&_, List.List, List.[], List._∷_}
 use Prim.Native.Nat.{ℕ, _+_, _-_, _*_}
-use lib.Dec.{leb}
-use Rattle.expr.specs.Answers.{Answer, ok, andThen, need}
-use Rattle.expr.specs.Terms.{Union, Sequence, Core, leaf, one, two, Expr, Plain, Unary, Binary, TestNegation, IfThenElse, Let, LetBitRange, Var, Ranged, records, size}
-use Rattle.expr.specs.Form.{decode, encodeCore}
-use Rattle.expr.specs.Operations.{intoRoom}
-use Rattle.desugar.specs.Bindings.{Env, variable, range, lookupVariable, lookupAlias, findRange}
-use Rattle.desugar.specs.Meter.{Meter, spent, left, Draws, _>>=_, lift, drawing}
-use Rattle.desugar.specs.Rules.{knownRange, boundVariable, rangeRule}
-use Rattle.desugar.specs.Leaves.{useCore}
-use Rattle.desugar.specs.Negation.{isTest, join, joinDraw, negate}
+use lib.{Dec.leb}
+use Rattle.expr.specs.{Answers.Answer, Answers.ok, Answers.andThen, Answers.need, Terms.Union, Terms.Sequence, Terms.Core, Terms.leaf, Terms.one, Terms.two, Terms.Expr, Terms.Plain, Terms.Unary, Terms.Binary, Terms.TestNegation, Terms.IfThenElse, Terms.Let, Terms.LetBitRange, Terms.Var, Terms.Ranged, Terms.records, Terms.size, Form.decode, Form.encodeCore, Operations.intoRoom}
+use Rattle.desugar.specs.{Bindings.Env, Bindings.variable, Bindings.range, Bindings.lookupVariable, Bindings.lookupAlias, Bindings.findRange, Meter.Meter, Meter.spent, Meter.left, Meter.Draws, Meter._>>=_, Meter.lift, Meter.drawing, Rules.knownRange, Rules.boundVariable, Rules.rangeRule, Leaves.useCore, Negation.isTest, Negation.join, Negation.joinDraw, Negation.negate}
 
--- "Children go left to right, then the node's own rules and draw." The term that begins at a record, under the bindings around
--- it. "22 negation of a non-test. 23 if-condition not a test.": judged "on the core it has made of the operand or condition".
--- "A draw is ..: a leaf, its whole core; Var, the copy; a negation, its result; If, the negated condition plus 3; Sequence, 1, or
--- 0 when dropping; Let and LetBitRange, 0; other operators, 1."
+-- "Children go left to right, then the node's own rules and draw.": a term that begins at a record, under the bindings around it.
+-- "desugaring judges 22 and 23 on the core it has made". The draws: "a leaf, its whole core; Var, the copy; a negation, its result; .."
 abbrev pub desugar : Env Core → Expr → ℕ → Draws Core
 desugar env (Plain a) at = drawing 1 at (leaf a)
 desugar env (Unary o e) at = desugar env e (at + 1) >>= λ c. drawing 1 at (one o c)
@@ -61,9 +51,8 @@ abbrev pub drawnOf : ℕ → Meter → ℕ
 drawnOf n (left m) = n - m
 drawnOf n (spent m) = m
 
--- "Desugar: 9 ..; 10 ..; form; rules and 24 in walking order; 26 encoded core longer than the answer buffer. Success gives the
--- core's length and the drawn total.": here the core's bytes. n is the allowance, work the length of work memory, room that of
--- the answer buffer
+-- "Desugar: 9 ..; 10 ..; form; rules and 24 ..; 26 ..": the core's bytes and the drawn total, of an allowance n, work memory and an
+-- answer buffer of these lengths
 abbrev pub desugarBytes : (bs : List ℕ) (n work room : ℕ) → Answer (List ℕ × ℕ)
 desugarBytes bs n work room =
     andThen (need (leb 1 n && leb n maxAllowance) 9 0) λ _.

@@ -1,12 +1,9 @@
 -- The cores of range and alias assignments, tests and matches (document 01, "Walking rules", and src/desugar.rs for trees).
-use mathlib.Core.Bool.{Bool, true, false, cond, not, Bool·beq}
-use mathlib.Core.List.{List, [], _∷_, _++_}
+use mathlib.Core.{Bool.Bool, Bool.true, Bool.false, Bool.cond, Bool.not, Bool.Bool·beq, List.List, List.[], List._∷_, List._++_}
 use Prim.Native.Nat.{ℕ, suc, _+_, _-_, _^_}
-use lib.Dec.{eqb}
-use lib.ListN.{length, drop}
-use Rattle.literals.specs.Bits.{Bits, valueOf, pad}
-use Rattle.literals.specs.Patterns.{Exact, Cidr, Wildcard, IpRange}
-use Rattle.expr.specs.Terms.{Atom, Zero, One, Assign, Test, Op2, Union, Intersect, Sequence, Core, leaf, two, Use, Assigns, Tests, Matches}
+use lib.{Dec.eqb, ListN.length, ListN.drop}
+use Rattle.literals.specs.{Bits.Bits, Bits.valueOf, Bits.pad, Patterns.Exact, Patterns.Cidr, Patterns.Wildcard, Patterns.IpRange}
+use Rattle.expr.specs.{Terms.Atom, Terms.Zero, Terms.One, Terms.Assign, Terms.Test, Terms.Op2, Terms.Union, Terms.Intersect, Terms.Sequence, Terms.Core, Terms.leaf, Terms.two, Terms.Use, Terms.Assigns, Terms.Tests, Terms.Matches}
 
 -- "Chains lean right": c₁ o (c₂ o (.. o cₙ)), and the atom where there is none
 abbrev pub chain : Op2 → Atom → List Core → Core
@@ -48,8 +45,7 @@ partings d s (b ∷ bs) =
 abbrev pub bound : Bool → ℕ → Bits → Core
 bound d s a = chain Union Zero (partings d s a ++ chain Intersect One (highFirst s a) ∷ [])
 
--- "Range: equal bounds give the Exact chain; the full range gives One; otherwise the lower term, the upper term, or lower
--- Intersect upper". Are the bounds equal, is the lower one 0, is the upper one the highest value
+-- "Range: equal bounds give the Exact chain; ..": are the bounds equal, is the lower one 0, is the upper one the highest value
 abbrev pub betweenCase : Bool → Bool → Bool → ℕ → Bits → Bits → Core
 betweenCase true low high s a b = testChain s a
 betweenCase false true true s a b = leaf One

@@ -6,4 +6,3 @@ pub mod Leaves
 pub mod Negation
 pub mod Desugar
 pub mod Packets
-pub mod Answered

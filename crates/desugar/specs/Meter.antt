@@ -1,8 +1,8 @@
 -- Draws on an allowance (document 01, "Walking rules": "A draw is the count of core nodes that a step makes").
-use mathlib.Core.Bool.{cond}
+use mathlib.Core.{Bool.cond}
 use Prim.Native.Nat.{ℕ, _+_, _-_}
-use lib.Dec.{leb}
-use Rattle.expr.specs.Answers.{Answer, ok, refuse, andThen}
+use lib.{Dec.leb}
+use Rattle.expr.specs.{Answers.Answer, Answers.ok, Answers.refuse, Answers.andThen}
 
 -- what has been drawn so far, without limit; or what is left of an allowance
 pub data Meter : Type 0 where

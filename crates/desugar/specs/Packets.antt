@@ -1,15 +1,10 @@
 -- What terms and cores mean: relations between packets (document 01, "Packet meaning").
-use mathlib.Core.Path.{_≡_}
-use mathlib.Core.Logic.{_⊎_}
-use mathlib.Core.Bool.{Bool, true, false, cond, not, _&&_, _||_}
-use mathlib.Core.Option.{Option, none, some}
-use mathlib.Core.List.{List, [], _∷_}
+use mathlib.Core.{Path._≡_, Logic._⊎_, Bool.Bool, Bool.true, Bool.false, Bool.cond, Bool.not, Bool._&&_, Bool._||_, Option.Option, Option.none, Option.some, Option.Option·getD, List.List, List.[], List._∷_}
 use Prim.Native.Nat.{ℕ, zero, suc, _+_, _-_}
-use lib.Dec.{leb, ltb, eqb}
-use Rattle.literals.specs.Bits.{Bits, valueOf, bitAt}
-use Rattle.literals.specs.Patterns.{Pattern, HoldsOf}
-use Rattle.expr.specs.Terms.{Atom, Zero, One, Top, Dup, End, Assign, Test, Op2, Union, Intersect, Xor, Difference, Sequence, LtlUntil, Op1, Complement, Star, LtlNext, Core, leaf, one, two, Use, Assigns, Tests, Matches, Expr, Plain, Unary, Binary, TestNegation, IfThenElse, Let, LetBitRange, Var, Ranged, atomKind, op1Kind, op2Kind}
-use Rattle.desugar.specs.Bindings.{Env, variable, range, lookupVariable, findRange}
+use lib.{Dec.leb, Dec.ltb, Dec.eqb}
+use Rattle.literals.specs.{Bits.Bits, Bits.valueOf, Bits.bitAt, Patterns.Pattern, Patterns.HoldsOf}
+use Rattle.expr.specs.{Terms.Atom, Terms.Zero, Terms.One, Terms.Top, Terms.Dup, Terms.End, Terms.Assign, Terms.Test, Terms.Op2, Terms.Union, Terms.Intersect, Terms.Xor, Terms.Difference, Terms.Sequence, Terms.LtlUntil, Terms.Op1, Terms.Complement, Terms.Star, Terms.LtlNext, Terms.Core, Terms.leaf, Terms.one, Terms.two, Terms.Use, Terms.Assigns, Terms.Tests, Terms.Matches, Terms.Expr, Terms.Plain, Terms.Unary, Terms.Binary, Terms.TestNegation, Terms.IfThenElse, Terms.Let, Terms.LetBitRange, Terms.Var, Terms.Ranged, Terms.atomKind, Terms.op1Kind, Terms.op2Kind}
+use Rattle.desugar.specs.{Bindings.Env, Bindings.variable, Bindings.range, Bindings.lookupVariable, Bindings.findRange}
 
 -- "A packet gives every field number a bit"
 abbrev pub Packet : Type 0
@@ -81,8 +76,7 @@ module _ (others : Others) where
   coreMeans (one o c) = op1Means o (coreMeans c)
   coreMeans (two o a b) = op2Means o (coreMeans a) (coreMeans b)
 
-  -- "range and alias assignment likewise, for the whole range; range and alias tests and matches if equal and the range's value
-  -- is the literal, ..": the n fields from s
+  -- "range and alias assignment likewise, ..; range and alias tests and matches if equal and ..": the n fields from s
   abbrev pub useMeans : Use → ℕ → ℕ → Relation
   useMeans (Assigns a) s n p q = q ≡ withRange p s n (valueOf a)
   useMeans (Tests a) s n p q = (p ≡ q) × (fieldValue p s n ≡ valueOf a)
@@ -93,13 +87,7 @@ module _ (others : Others) where
   rangeMeans u (some r) p q = useMeans u (r .0) (r .1 - r .0) p q
   rangeMeans u none p q = ⊥
 
-  abbrev pub variableMeans : Option Relation → Relation
-  variableMeans (some R) p q = R p q
-  variableMeans none p q = ⊥
-
-  -- "negation if equal and the operand doesn't relate p to itself; If by its then branch where the condition relates p to itself,
-  -- elsewhere by its else branch; Let and LetBitRange as their body does under the new binding; Var as its definition does under
-  -- the bindings around its Let." The written meaning, under what the variables around mean
+  -- "A term relates packet p to q: .. negation if equal and the operand doesn't relate p to itself; If by ..": the written meaning
   abbrev pub means : Env Relation → Expr → Relation
   means env (Plain a) p q = atomMeans a p q
   means env (Unary o e) p q = op1Means o (means env e) p q
@@ -108,7 +96,7 @@ module _ (others : Others) where
   means env (IfThenElse c t e) p q = (means env c p p × means env t p q) ⊎ (¬ means env c p p × means env e p q)
   means env (Let x d b) p q = means (variable x (means env d) ∷ env) b p q
   means env (LetBitRange x s e b) p q = means (range x s e ∷ env) b p q
-  means env (Var x) p q = variableMeans (lookupVariable env x) p q
+  means env (Var x) p q = Option·getD (lookupVariable env x) (λ p q. ⊥) p q
   means env (Ranged w u) p q = rangeMeans u (findRange env w) p q
 
 -- only one-step kinds

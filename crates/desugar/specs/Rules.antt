@@ -1,13 +1,9 @@
 -- The rules 11 to 21 (document 01, "Rules"), each asked at a place. 22 and 23 stand with the walks that judge them.
-use mathlib.Core.Bool.{_&&_}
-use mathlib.Core.Option.{Option, none, some}
+use mathlib.Core.{Bool._&&_, Option.Option, Option.none, Option.some}
 use Prim.Native.Nat.{ℕ, _-_}
-use lib.Dec.{leb, eqb}
-use lib.ListN.{length}
-use Rattle.literals.specs.Bits.{Bits, valueOf}
-use Rattle.literals.specs.Patterns.{Pattern, Exact, Cidr, Wildcard, IpRange}
-use Rattle.expr.specs.Answers.{Answer, ok, refuse, andThen, need}
-use Rattle.expr.specs.Terms.{Where, Direct, Alias, Use, Assigns, Tests, Matches}
+use lib.{Dec.leb, Dec.eqb, ListN.length}
+use Rattle.literals.specs.{Bits.Bits, Bits.valueOf, Patterns.Pattern, Patterns.Exact, Patterns.Cidr, Patterns.Wildcard, Patterns.IpRange}
+use Rattle.expr.specs.{Answers.Answer, Answers.ok, Answers.refuse, Answers.andThen, Answers.need, Terms.Where, Terms.Direct, Terms.Alias, Terms.Use, Terms.Assigns, Terms.Tests, Terms.Matches}
 
 -- "11 unknown alias in assign, test or match."
 abbrev pub knownRange : Option (ℕ × ℕ) → ℕ → Answer (ℕ × ℕ)
@@ -29,9 +25,7 @@ literalRule (Alias x) a n at = need (leb (length a) n) 15 at
 abbrev pub maxRangeBits : ℕ
 maxRangeBits = 128
 
--- "15 .. Exact pattern longer than its field." "17 CIDR prefix above the width. 18 CIDR address length not the width. 19 wildcard
--- address or mask length not the width. 20 range pattern on a field over 128 bits, or with a bound longer than the field. 21
--- range start above range end." "then 17 before 18, 20 before 21": a pattern for n bits
+-- "15 .. Exact pattern longer than its field", "17 CIDR prefix ..", to "21 range start above range end": a pattern for n bits
 abbrev pub patternRule : Pattern → ℕ → ℕ → Answer (Unit {0})
 patternRule (Exact a) n at = need (leb (length a) n) 15 at
 patternRule (Cidr a k) n at = andThen (need (leb k n) 17 at) λ _. need (eqb (length a) n) 18 at

@@ -1,7 +1,6 @@
 // Desugaring: from a written policy to one-bit tests and assignments.
 ghost use mathlib.Core.Path.{_≡_};
-ghost use Rattle.desugar.specs.Bindings.{computeSubrange};
-ghost use Rattle.desugar.specs.Answered.{subrangeAnswer};
+ghost use Rattle.desugar.specs.Bindings.{computeSubrange, subrangeAnswer};
 
 // The part of an alias range that a range within it takes, in the fields of a packet.
 pub enum Subrange {

@@ -8,7 +8,7 @@ use lib.Dec.{leb, eqb}
 use lib.ListN.{length, getD}
 use Rattle.literals.specs.Bits.{Bits, bitAt}
 use Rattle.literals.proofs.Logic.{leb-is, eqb-is, and-both, and-left, and-right, or-right, or-cases}
-use Rattle.expr.specs.Records.{Record, kindFields, maxKind, among, noneLacks, isMatch, fitsPattern, stands, mapOf}
+use Rattle.expr.specs.Records.{Record, kindFields, among, noneLacks, isMatch, fitsPattern, stands, mapOf}
 use Rattle.expr.specs.Form.{RecordFits}
 use Rattle.expr.proofs.RecordForm.{empty-is, fieldBits, Legal, standing, map-bit}
 
@@ -106,14 +106,14 @@ legal-fitting h l = sym (fits-pattern-is h) ∙ l .fitting
 
 -- the tests of one record, in a form that computes at a known kind
 abbrev lawful : Record → Bool
-lawful h = leb h.kind maxKind && (leb h.pattern 3 && ((isMatch h.kind || leb h.number 1) && fitting h))
+lawful h = leb h.kind 26 && (leb h.pattern 3 && ((isMatch h.kind || leb h.number 1) && fitting h))
 
 pub legal-of : (h : Record) → h ≡ kept (h .kind) h → lawful h ≡ true → RecordFits h → Legal h
 legal-of h e t r =
-    let t1 = and-right (leb (h .kind) maxKind) _ t in
+    let t1 = and-right (leb (h .kind) 26) _ t in
     let t2 = and-right (leb (h .pattern) 3) _ t1 in
     record {
-      kind = leb-is (h .kind) maxKind .0 (and-left (leb (h .kind) maxKind) _ t);
+      kind = leb-is (h .kind) 26 .0 (and-left (leb (h .kind) 26) _ t);
       has = kept-has h e;
       pattern = leb-is (h .pattern) 3 .0 (and-left (leb (h .pattern) 3) _ t1);
       fitting = fits-pattern-is h ∙ and-right (isMatch (h .kind) || leb (h .number) 1) (fitting h) t2;

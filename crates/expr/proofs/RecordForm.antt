@@ -1,6 +1,6 @@
 -- Reading one record accepts exactly the writings of legal records.
 use mathlib.Core.Path.{_≡_, refl, sym, ap, _∙_}
-use mathlib.Core.Bool.{Bool, true, false, not, _||_}
+use mathlib.Core.Bool.{Bool, true, false, not, _||_, cond}
 use mathlib.Core.List.{List, [], _∷_, _++_, append-assoc}
 use Prim.Native.Nat.{ℕ, _^_, _≤_, _<_}
 use native.Mathlib.Omega.{arith}
@@ -11,8 +11,12 @@ use Rattle.literals.specs.Reading.{Read, got, Reads, goOn, _>>=_, give, ask, no
 use Rattle.literals.proofs.Logic.{leb-is, eqb-is, or-right}
 use Rattle.literals.proofs.Bits.{bit-at-value, bit-at-bits, value-of-bits}
 use Rattle.literals.proofs.Codec.{IfGot, got-map, got-bind, got-ask, Wrote, Codec, codec-only, tested, nonzero-codec, literal-codec}
-use Rattle.expr.specs.Records.{Record, maxKind, noneLacks, isMatch, fitsPattern, whenBit, readRecord, stands, mapOf, writeNumber, writeRecord}
+use Rattle.expr.specs.Records.{Record, noneLacks, isMatch, fitsPattern, readRecord, stands, mapOf, writeNumber, writeRecord}
 use Rattle.expr.specs.Form.{RecordFits}
+
+-- a field that is read where its bit stands, and is absent where it does not
+abbrev whenBit : {A : Type 0} → Bool → A → Reads A → Reads A
+whenBit b absent m = cond b m (give absent)
 
 -- ## Fields that stand where their bit does
 
@@ -94,7 +98,7 @@ fieldBits = 1 ∷ 2 ∷ 3 ∷ 4 ∷ 5 ∷ 6 ∷ 7 ∷ []
 
 -- the rules of one record
 pub record Legal (h : Record) : Type 0 where
-  pub kind : h.kind ≤ maxKind
+  pub kind : h.kind ≤ 26
   pub has : noneLacks h.kind (mapOf h) fieldBits ≡ true
   pub pattern : h.pattern ≤ 3
   pub fitting : fitsPattern h.kind h.pattern (mapOf h) ≡ true
@@ -120,7 +124,7 @@ fields-in-order h rest = simp append-assoc
 record-forward : (h : Record) (rest : List ℕ) → Legal h → readRecord (writeRecord h ++ rest) ≡ got h rest
 record-forward h rest l =
     ap readRecord (fields-in-order h rest)
-    ∙ field-reads (tested-field (λ k. leb k maxKind) 2 refl) _ (h .kind) _ _ (map-bit 0 h) (omega (arith, l .kind), leb-is (h .kind) maxKind .1 (l .kind))
+    ∙ field-reads (tested-field (λ k. leb k 26) 2 refl) _ (h .kind) _ _ (map-bit 0 h) (omega (arith, l .kind), leb-is (h .kind) 26 .1 (l .kind))
     (ask-reads _ 3 _ _ (l .has)
     (field-reads (number-field 2 (omega arith)) _ (h .name) _ _ (map-bit 1 h) (l .fits .name)
     (field-reads (number-field 4 (omega arith)) _ (h .start) _ _ (map-bit 2 h) (l .fits .start)
@@ -144,7 +148,7 @@ byte-bits m small =
 record-back : (bs : List ℕ) → Bytes bs → IfGot (Wrote Legal writeRecord bs) (readRecord bs)
 record-back [] b = tt
 record-back (m ∷ bs) b =
-    field-back (tested-field (λ k. leb k maxKind) 2 refl) _ (bitAt 0 m) bs _ (b .1) (λ kind r0 w0.
+    field-back (tested-field (λ k. leb k 26) 2 refl) _ (bitAt 0 m) bs _ (b .1) (λ kind r0 w0.
     got-ask _ (noneLacks kind m fieldBits) 3 _ r0 (λ has.
     field-back (number-field 2 (omega arith)) _ (bitAt 1 m) r0 _ (w0 .left) (λ name r1 w1.
     field-back (number-field 4 (omega arith)) _ (bitAt 2 m) r1 _ (w1 .left) (λ start r2 w2.
@@ -162,7 +166,7 @@ record-back (m ∷ bs) b =
     record {
       good =
           record {
-            kind = leb-is kind maxKind .0 (w0 .good .1 .1);
+            kind = leb-is kind 26 .0 (w0 .good .1 .1);
             has = ap (λ n. noneLacks kind n fieldBits) map ∙ has;
             pattern = leb-is pattern 3 .0 (w4 .good .1 .1);
             fitting = ap (fitsPattern kind pattern) map ∙ fitting;

@@ -1,15 +1,9 @@
 -- A term's bytes: reading with the refusals 1 to 8, and writing (document 01, "Form" and "Term bytes").
-use mathlib.Core.Bool.{Bool, true, false}
-use mathlib.Core.List.{List, [], _∷_, _++_}
+use mathlib.Core.{Bool.Bool, Bool.true, Bool.false, List.List, List.[], List._∷_, List._++_}
 use Prim.Native.Nat.{ℕ, zero, suc, _+_, _^_, _≤_, _<_}
-use lib.Dec.{ltb, eqb}
-use lib.ListN.{length, getD}
-use Rattle.literals.specs.Bits.{Bits, bit}
-use Rattle.literals.specs.Patterns.{Pattern, Exact, Cidr, Wildcard, IpRange}
-use Rattle.literals.specs.Reading.{Read, got, fault, maxLiteral}
-use Rattle.expr.specs.Answers.{Answer, ok, refuse, andThen, need}
-use Rattle.expr.specs.Terms.{Atom, Zero, One, Top, Dup, End, Assign, Test, Op1, Complement, Star, LtlNext, Op2, Union, Intersect, Xor, Difference, Sequence, LtlUntil, Core, leaf, one, two, Where, Direct, Alias, Use, Assigns, Tests, Matches, Expr, Plain, Unary, Binary, TestNegation, IfThenElse, Let, LetBitRange, Var, Ranged, atomKind, op1Kind, op2Kind, records, depth}
-use Rattle.expr.specs.Records.{Record, readRecord, writeRecord}
+use lib.{Dec.ltb, Dec.eqb, ListN.length, ListN.getD}
+use Rattle.literals.specs.{Bits.Bits, Bits.bit, Patterns.Pattern, Patterns.Exact, Patterns.Cidr, Patterns.Wildcard, Patterns.IpRange, Reading.Read, Reading.got, Reading.fault, Reading.maxLiteral}
+use Rattle.expr.specs.{Answers.Answer, Answers.ok, Answers.refuse, Answers.andThen, Answers.need, Terms.Atom, Terms.Zero, Terms.One, Terms.Top, Terms.Dup, Terms.End, Terms.Assign, Terms.Test, Terms.Op1, Terms.Complement, Terms.Star, Terms.LtlNext, Terms.Op2, Terms.Union, Terms.Intersect, Terms.Xor, Terms.Difference, Terms.Sequence, Terms.LtlUntil, Terms.Core, Terms.leaf, Terms.one, Terms.two, Terms.Where, Terms.Direct, Terms.Alias, Terms.Use, Terms.Assigns, Terms.Tests, Terms.Matches, Terms.Expr, Terms.Plain, Terms.Unary, Terms.Binary, Terms.TestNegation, Terms.IfThenElse, Terms.Let, Terms.LetBitRange, Terms.Var, Terms.Ranged, Terms.atomKind, Terms.op1Kind, Terms.op2Kind, Terms.records, Terms.depth, Records.Record, Records.readRecord, Records.writeRecord}
 
 -- ## Reading
 
@@ -151,8 +145,7 @@ encodeCore c = encode (written c)
 
 -- ## The limits
 
--- "Bit 0 kind (1 byte); 1 name (2); 2 start or field (4); 3 end (4); .. 5 number (1..); 6 and 7 literals": numbers that their
--- bytes can hold, and literals that are not too long
+-- "Bit 0 kind (1 byte); 1 name (2); 2 start or field (4); ..": numbers that their bytes can hold, and literals not too long
 pub record RecordFits (h : Record) : Type 0 where
   pub name : h.name < 2 ^ 16
   pub start : h.start < 2 ^ 32

@@ -1,12 +1,8 @@
 -- The operations on terms alone: Test fragment, Field count and Substitute (document 01, and src/expr.rs for trees).
-use mathlib.Core.Bool.{Bool, true, false, cond, _&&_}
-use mathlib.Core.List.{List}
+use mathlib.Core.{Bool.Bool, Bool.true, Bool.false, Bool.cond, Bool._&&_, List.List}
 use Prim.Native.Nat.{ℕ, _+_, _^_, max}
-use lib.Dec.{leb, ltb, eqb}
-use lib.ListN.{length}
-use Rattle.expr.specs.Answers.{Answer, ok, refuse, andThen, mapAnswer, need}
-use Rattle.expr.specs.Terms.{Atom, Zero, One, Top, Dup, End, Assign, Test, Name, Where, Direct, Alias, Use, Assigns, Tests, Matches, Expr, Plain, Unary, Binary, TestNegation, IfThenElse, Let, LetBitRange, Var, Ranged, atomKind, op2Kind, testKind, records, depth}
-use Rattle.expr.specs.Form.{maxRecords, maxDepth, decode, encode}
+use lib.{Dec.leb, Dec.ltb, Dec.eqb, ListN.length}
+use Rattle.expr.specs.{Answers.Answer, Answers.ok, Answers.refuse, Answers.andThen, Answers.mapAnswer, Answers.need, Terms.Atom, Terms.Zero, Terms.One, Terms.Top, Terms.Dup, Terms.End, Terms.Assign, Terms.Test, Terms.Name, Terms.Where, Terms.Direct, Terms.Alias, Terms.Use, Terms.Assigns, Terms.Tests, Terms.Matches, Terms.Expr, Terms.Plain, Terms.Unary, Terms.Binary, Terms.TestNegation, Terms.IfThenElse, Terms.Let, Terms.LetBitRange, Terms.Var, Terms.Ranged, Terms.atomKind, Terms.op2Kind, Terms.testKind, Terms.records, Terms.depth, Form.maxRecords, Form.maxDepth, Form.decode, Form.encode}
 
 -- `Expr::is_test_fragment`
 abbrev pub isTestUse : Use → Bool
@@ -29,25 +25,23 @@ isTestFragment (Ranged w u) = isTestUse u
 abbrev pub fragmentBytes : List ℕ → Answer Bool
 fragmentBytes bs = mapAnswer isTestFragment (decode bs)
 
--- `Expr::num_fields`. "25 at the first Assign or Test of field 4,294,967,295", where the Rust panics
-abbrev pub countField : ℕ → ℕ → Answer ℕ
-countField f at = andThen (need (ltb (f + 1) (2 ^ 32)) 25 at) λ _. ok (f + 1)
-
-abbrev pub atomFields : Atom → ℕ → Answer ℕ
-atomFields Zero at = ok 0
-atomFields One at = ok 0
-atomFields Top at = ok 0
-atomFields Dup at = ok 0
-atomFields End at = ok 0
-atomFields (Assign f v) at = countField f at
-atomFields (Test f v) at = countField f at
+-- `Expr::num_fields`: one more than the highest field
+abbrev pub atomFields : Atom → ℕ
+atomFields Zero = 0
+atomFields One = 0
+atomFields Top = 0
+atomFields Dup = 0
+atomFields End = 0
+atomFields (Assign f v) = f + 1
+atomFields (Test f v) = f + 1
 
 abbrev pub rangeFields : Where → ℕ
 rangeFields (Direct s e) = e
 rangeFields (Alias x) = 0
 
+-- "25 at the first Assign or Test of field 4,294,967,295", whose count is beyond 32 bits
 abbrev pub numFields : Expr → ℕ → Answer ℕ
-numFields (Plain a) at = atomFields a at
+numFields (Plain a) at = andThen (need (ltb (atomFields a) (2 ^ 32)) 25 at) λ _. ok (atomFields a)
 numFields (Unary o e) at = numFields e (at + 1)
 numFields (Binary o a b) at =
     andThen (numFields a (at + 1)) λ m.

@@ -1,11 +1,8 @@
 -- One record's bytes (document 01, "Term bytes" and "Form").
-use mathlib.Core.Bool.{Bool, true, false, cond, not, _&&_, _||_}
-use mathlib.Core.List.{List, [], _∷_, _++_}
+use mathlib.Core.{Bool.Bool, Bool.true, Bool.false, Bool.cond, Bool.not, Bool._&&_, Bool._||_, List.List, List.[], List._∷_, List._++_}
 use Prim.Native.Nat.{ℕ, zero, suc}
-use lib.Dec.{leb, eqb}
-use lib.ListN.{length, getD}
-use Rattle.literals.specs.Bits.{Bits, valueOf, bitAt, bytesOf}
-use Rattle.literals.specs.Reading.{Reads, _>>=_, give, ask, byte, nonzero, literal, writeLiteral}
+use lib.{Dec.leb, Dec.eqb, ListN.length, ListN.getD}
+use Rattle.literals.specs.{Bits.Bits, Bits.valueOf, Bits.bitAt, Bits.bytesOf, Reading.Reads, Reading._>>=_, Reading.give, Reading.ask, Reading.byte, Reading.nonzero, Reading.literal, Reading.writeLiteral}
 
 -- "A record is a map byte, then only the fields whose bit stands; an absent field is zero or empty." Fields 0 to 7
 pub record Record : Type 0 where
@@ -27,9 +24,6 @@ kindFields =
     ∷ (1 ∷ 6 ∷ []) ∷ (1 ∷ 6 ∷ []) ∷ (2 ∷ 3 ∷ 6 ∷ []) ∷ (2 ∷ 3 ∷ 6 ∷ [])
     ∷ (2 ∷ 3 ∷ 4 ∷ 5 ∷ 6 ∷ 7 ∷ []) ∷ (1 ∷ 4 ∷ 5 ∷ 6 ∷ 7 ∷ []) ∷ []
 
-abbrev pub maxKind : ℕ
-maxKind = 26
-
 abbrev pub among : ℕ → List ℕ → Bool
 among i [] = false
 among i (j ∷ js) = eqb i j || among i js
@@ -47,27 +41,21 @@ isMatch k = leb 25 k
 abbrev pub fitsPattern : ℕ → ℕ → ℕ → Bool
 fitsPattern k p m = not (isMatch k) || ((not (bitAt 5 m) || eqb p 1) && (not (bitAt 7 m) || leb 2 p))
 
--- a field that is read where its bit stands, and is a where it does not
-abbrev pub whenBit : {A : Type 0} → Bool → A → Reads A → Reads A
-whenBit true a m = m
-whenBit false a m = give a
-
--- "Then the kind, if its bit stands: 1 no byte left, 4 zero, 2 above 26. Then 3, a map bit that the kind lacks. Then fields
--- in map order: 1 bytes lacking, 4 zero, 5 out of range.". "4 pattern (.. over 3 is 5); 5 number (.. the value of Assign and
--- Test, only 1 allowed, else 5; or a CIDR prefix)"
+-- "1 bytes used up. Then the kind, if its bit stands: ..": the map, the kind, 3, then the fields in map order. "4 pattern (.. over 3
+-- is 5); 5 number (.. the value of Assign and Test, only 1 allowed, else 5; or a CIDR prefix)"
 abbrev pub readRecord : Reads Record
 readRecord =
     byte >>= λ m.
-    whenBit (bitAt 0 m) 0 (nonzero 1 >>= λ k. ask (leb k maxKind) 2 >>= λ _. give k) >>= λ k.
+    cond (bitAt 0 m) (nonzero 1 >>= λ k. ask (leb k 26) 2 >>= λ _. give k) (give 0) >>= λ k.
     ask (noneLacks k m (1 ∷ 2 ∷ 3 ∷ 4 ∷ 5 ∷ 6 ∷ 7 ∷ [])) 3 >>= λ _.
-    whenBit (bitAt 1 m) 0 (nonzero 2) >>= λ name.
-    whenBit (bitAt 2 m) 0 (nonzero 4) >>= λ start.
-    whenBit (bitAt 3 m) 0 (nonzero 4) >>= λ end.
-    whenBit (bitAt 4 m) 0 (nonzero 1 >>= λ p. ask (leb p 3) 5 >>= λ _. give p) >>= λ pattern.
+    cond (bitAt 1 m) (nonzero 2) (give 0) >>= λ name.
+    cond (bitAt 2 m) (nonzero 4) (give 0) >>= λ start.
+    cond (bitAt 3 m) (nonzero 4) (give 0) >>= λ end.
+    cond (bitAt 4 m) (nonzero 1 >>= λ p. ask (leb p 3) 5 >>= λ _. give p) (give 0) >>= λ pattern.
     ask (fitsPattern k pattern m) 3 >>= λ _.
-    whenBit (bitAt 5 m) 0 (nonzero 1 >>= λ v. ask (isMatch k || leb v 1) 5 >>= λ _. give v) >>= λ number.
-    whenBit (bitAt 6 m) [] literal >>= λ a.
-    whenBit (bitAt 7 m) [] literal >>= λ b.
+    cond (bitAt 5 m) (nonzero 1 >>= λ v. ask (isMatch k || leb v 1) 5 >>= λ _. give v) (give 0) >>= λ number.
+    cond (bitAt 6 m) literal (give []) >>= λ a.
+    cond (bitAt 7 m) literal (give []) >>= λ b.
     give (record { kind = k; name = name; start = start; end = end; pattern = pattern; number = number; litA = a; litB = b })
 
 -- whether a field stands

@@ -1,9 +1,8 @@
 -- Terms as they are written, and the core that they are taken to (document 01, "Term bytes").
-use mathlib.Core.Bool.{Bool, _&&_, _||_}
+use mathlib.Core.{Bool.Bool, Bool._&&_, Bool._||_}
 use Prim.Native.Nat.{ℕ, _+_, max}
-use lib.Dec.{leb}
-use Rattle.literals.specs.Bits.{Bits}
-use Rattle.literals.specs.Patterns.{Pattern}
+use lib.{Dec.leb}
+use Rattle.literals.specs.{Bits.Bits, Patterns.Pattern}
 
 -- "0 Zero, 1 One, 2 Top, 3 Dup, 4 End; 5 Assign, 6 Test": a field and its bit
 pub data Atom : Type 0 where
@@ -78,8 +77,7 @@ op1Kind LtlNext = 15
 abbrev pub testKind : ℕ → Bool
 testKind k = leb k 1 || (leb 6 k && leb k 11)
 
--- "The place is a record's index in the term, from 0 in written order": a node has one record, and a child begins where
--- the one before it ends
+-- "The place is a record's index in the term": a node has one record, and a child begins where the one before it ends
 abbrev pub records : Expr → ℕ
 records (Plain a) = 1
 records (Unary o e) = 1 + records e

@@ -1,9 +1,7 @@
 -- Literals as bits and as numbers (document 01, "Term bytes" and "Walking rules").
-use mathlib.Core.Bool.{Bool, true, false}
-use mathlib.Core.List.{List, [], _∷_, _++_}
+use mathlib.Core.{Bool.Bool, Bool.true, Bool.false, List.List, List.[], List._∷_, List._++_}
 use Prim.Native.Nat.{ℕ, zero, suc, _+_, _-_, _*_, _/_, _%_, _^_, _<_}
-use lib.Dec.{eqb}
-use lib.ListN.{length, take, drop, replicate}
+use lib.{Dec.eqb, ListN.length, ListN.take, ListN.drop, ListN.replicate}
 
 -- "Term bytes": "then bits, least significant first". A literal is its bits, bit 0 first
 abbrev pub Bits : Type 0

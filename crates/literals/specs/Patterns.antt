@@ -1,9 +1,8 @@
 -- Patterns, and the values that they hold of (document 01, "Term bytes" and "Packet meaning").
-use mathlib.Core.Path.{_≡_}
-use mathlib.Core.Bool.{false}
+use mathlib.Core.{Path._≡_, Bool.false}
 use Prim.Native.Nat.{ℕ, _-_, _≤_, _<_}
-use lib.ListN.{getD}
-use Rattle.literals.specs.Bits.{Bits, valueOf, bitAt}
+use lib.{ListN.getD}
+use Rattle.literals.specs.{Bits.Bits, Bits.valueOf, Bits.bitAt}
 
 -- "Term bytes": "Exact has A; Cidr number and A; Wildcard address A, mask B; IpRange A to B."
 pub data Pattern : Type 0 where
@@ -15,8 +14,7 @@ pub data Pattern : Type 0 where
   -- the lowest and the highest value
   IpRange : Bits → Bits → Pattern
 
--- "Packet meaning": "the range's value is the literal, agrees in the prefix bits, agrees where the mask is false, or lies
--- between the bounds, both included". The pattern holds of the value v of a range of n bits
+-- "the range's value is the literal, agrees in the prefix bits, ..": the pattern holds of the value v of a range of n bits
 abbrev pub HoldsOf : Pattern → ℕ → ℕ → Type 0
 HoldsOf (Exact a) n v = v ≡ valueOf a
 HoldsOf (Cidr a k) n v = (i : ℕ) → n - k ≤ i → i < n → bitAt i v ≡ getD a i false

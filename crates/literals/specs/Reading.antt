@@ -1,10 +1,8 @@
 -- Reading and writing numbers and literals as bytes (document 01, "Term bytes" and "Form").
-use mathlib.Core.Bool.{Bool, true, false, not, _&&_}
-use mathlib.Core.List.{List, [], _∷_}
+use mathlib.Core.{Bool.Bool, Bool.true, Bool.false, Bool.not, Bool._&&_, List.List, List.[], List._∷_}
 use Prim.Native.Nat.{ℕ, zero, suc, _+_, _/_}
-use lib.Dec.{leb, eqb}
-use lib.ListN.{length, take, drop}
-use Rattle.literals.specs.Bits.{Bits, numberOf, unpack, pack}
+use lib.{Dec.leb, Dec.eqb, ListN.length, ListN.take, ListN.drop}
+use Rattle.literals.specs.{Bits.Bits, Bits.numberOf, Bits.unpack, Bits.pack}
 
 -- what is read and the bytes that are left, or a refusal's number
 pub data Read (A : Type 0) : Type 0 where

@@ -1,7 +1,7 @@
 -- Check as one walk, which makes no list of points: the children from left to right, then the node's own rules.
 use mathlib.Core.Path.{_≡_, refl, sym, ap, _∙_}
 use mathlib.Core.Bool.{Bool, true, false, _&&_, _||_}
-use mathlib.Core.Option.{Option, none, some}
+use mathlib.Core.Option.{Option, none, some, Option·getD}
 use mathlib.Core.List.{List, [], _∷_, _++_}
 use Prim.Native.Nat.{ℕ, _+_}
 use lib.Dec.{eqb}
@@ -10,7 +10,7 @@ use Rattle.expr.specs.Operations.{isTestUse}
 use Rattle.expr.specs.Terms.{Binary, Expr, IfThenElse, Let, LetBitRange, Plain, Ranged, TestNegation, Unary, Use, Var, Where, atomKind, op2Kind, records, testKind}
 use Rattle.desugar.specs.Bindings.{Env, findRange, lookupAlias, lookupVariable, range, variable}
 use Rattle.desugar.specs.Rules.{boundVariable, knownRange, rangeRule}
-use Rattle.netkat.specs.Check.{check, firstFailure, ruleAt, sorts, testRange, testSort, testVariable}
+use Rattle.netkat.specs.Check.{check, firstFailure, ruleAt, sorts, testRange, testSort}
 use Rattle.netkat.specs.Points.{Point, Scope, point, walk}
 
 -- under which variables around are tests: the first rule that fails, or whether the term is a test
@@ -90,7 +90,7 @@ own-range w u (some r) at = sym (then-assoc (rangeRule w u r at) (λ _. ok (tt {
 own-range w u none at = refl
 
 own-variable : (o : Option Bool) (r : Option (ℕ × ℕ)) (at : ℕ)
-    → boundVariable o r at ≡ andThen (andThen (mapAnswer (λ _. tt {0}) (boundVariable o r at)) (λ _. ok (tt {0}))) (λ _. ok (testVariable o))
+    → boundVariable o r at ≡ andThen (andThen (mapAnswer (λ _. tt {0}) (boundVariable o r at)) (λ _. ok (tt {0}))) (λ _. ok (Option·getD o false))
 own-variable (some s) r at = refl
 own-variable none (some r) at = refl
 own-variable none none at = refl

@@ -1,29 +1,17 @@
 -- The check: rules 11 to 23 by the written term alone (document 01, "Test sort" and "Check").
-use mathlib.Core.Path.{_≡_}
-use mathlib.Core.Bool.{Bool, true, false, _&&_, _||_}
-use mathlib.Core.Option.{Option, none, some}
-use mathlib.Core.List.{List, [], _∷_, List·Memᴰ}
+use mathlib.Core.{Path._≡_, Bool.Bool, Bool.true, Bool.false, Bool._&&_, Bool._||_, Option.Option, Option.none, Option.some, Option.Option·getD, List.List, List.[], List._∷_, List.List·Memᴰ}
 use Prim.Native.Nat.{ℕ}
-use lib.Dec.{eqb}
-use Rattle.expr.specs.Answers.{Answer, ok, andThen, mapAnswer, need}
-use Rattle.expr.specs.Terms.{Use, Expr, Plain, Unary, Binary, TestNegation, IfThenElse, Let, LetBitRange, Var, Ranged, atomKind, op2Kind, testKind}
-use Rattle.expr.specs.Form.{decode}
-use Rattle.expr.specs.Operations.{isTestUse}
-use Rattle.desugar.specs.Bindings.{Env, variable, range, lookupVariable, lookupAlias, findRange}
-use Rattle.desugar.specs.Rules.{knownRange, boundVariable, rangeRule}
-use Rattle.netkat.specs.Points.{Scope, Point, walk}
+use lib.{Dec.eqb}
+use Rattle.expr.specs.{Answers.Answer, Answers.ok, Answers.andThen, Answers.mapAnswer, Answers.need, Terms.Use, Terms.Expr, Terms.Plain, Terms.Unary, Terms.Binary, Terms.TestNegation, Terms.IfThenElse, Terms.Let, Terms.LetBitRange, Terms.Var, Terms.Ranged, Terms.atomKind, Terms.op2Kind, Terms.testKind, Form.decode, Operations.isTestUse}
+use Rattle.desugar.specs.{Bindings.Env, Bindings.variable, Bindings.range, Bindings.lookupVariable, Bindings.lookupAlias, Bindings.findRange, Rules.knownRange, Rules.boundVariable, Rules.rangeRule}
+use Rattle.netkat.specs.{Points.Scope, Points.Point, Points.walk}
 
 -- "tests, matches .. are tests; so is a range or alias assignment of width 0": where the range is known
 abbrev pub testRange : Use → Option (ℕ × ℕ) → Bool
 testRange u (some r) = isTestUse u || eqb (r .0) (r .1)
 testRange u none = false
 
-abbrev pub testVariable : Option Bool → Bool
-testVariable (some s) = s
-testVariable none = false
-
--- "Zero, One, tests, matches and negations are tests; .. Union, Intersect, Xor, Difference and Sequence need both sides; If both
--- branches; Let and LetBitRange their body; Var its definition. Nothing else is.": under which variables around are tests
+-- "Test sort: Zero, One, tests, matches and negations are tests; ..": given which variables around are tests
 abbrev pub testSort : Env Bool → Expr → Bool
 testSort env (Plain a) = testKind (atomKind a)
 testSort env (Unary o e) = false
@@ -32,7 +20,7 @@ testSort env (TestNegation e) = true
 testSort env (IfThenElse c t e) = testSort env t && testSort env e
 testSort env (Let x d b) = testSort (variable x (testSort env d) ∷ env) b
 testSort env (LetBitRange x s e b) = testSort (range x s e ∷ env) b
-testSort env (Var x) = testVariable (lookupVariable env x)
+testSort env (Var x) = Option·getD (lookupVariable env x) false
 testSort env (Ranged w u) = testRange u (findRange env w)
 
 -- which variables around a point are tests
@@ -66,8 +54,7 @@ abbrev pub firstFailure : List Point → Answer (Unit {0})
 firstFailure [] = ok tt
 firstFailure (p ∷ ps) = andThen (ruleAt p) λ _. firstFailure ps
 
--- "The check goes by this sort of the written term and makes no core": the first rule that fails in walking order, or whether the
--- term is a test
+-- "The check goes by this sort of the written term and makes no core": the first rule that fails, or whether the term is a test
 abbrev pub check : Scope → Expr → ℕ → Answer Bool
 check sc e at = andThen (firstFailure (walk sc e at)) λ _. ok (testSort (sorts sc) e)
 

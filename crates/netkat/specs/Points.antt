@@ -1,12 +1,8 @@
 -- The points of a term (document 01, "The words of demand 3").
-use mathlib.Core.List.{List, [], _∷_, _++_}
+use mathlib.Core.{List.List, List.[], List._∷_, List._++_}
 use Prim.Native.Nat.{ℕ, _+_}
-use Rattle.expr.specs.Answers.{Answer, ok, andThen, mapAnswer}
-use Rattle.expr.specs.Terms.{Core, Expr, Plain, Unary, Binary, TestNegation, IfThenElse, Let, LetBitRange, Var, Ranged, records}
-use Rattle.desugar.specs.Bindings.{Env, variable, range}
-use Rattle.desugar.specs.Meter.{spent}
-use Rattle.desugar.specs.Desugar.{desugar}
-use Rattle.desugar.specs.Packets.{Relation, Others, means, OneStep}
+use Rattle.expr.specs.{Answers.Answer, Answers.ok, Answers.andThen, Answers.mapAnswer, Terms.Core, Terms.Expr, Terms.Plain, Terms.Unary, Terms.Binary, Terms.TestNegation, Terms.IfThenElse, Terms.Let, Terms.LetBitRange, Terms.Var, Terms.Ranged, Terms.records}
+use Rattle.desugar.specs.{Bindings.Env, Bindings.variable, Bindings.range, Meter.spent, Desugar.desugar, Packets.Relation, Packets.Others, Packets.means, Packets.OneStep}
 
 -- "Around it stand the Lets and LetBitRanges in whose body it lies; a Let isn't around its own definition.": innermost first, a
 -- variable with its definition and the definition's place. What stands behind a binder in the list is around its definition

@@ -1,7 +1,7 @@
 -- `netkat::netkat_compute_subrange` meets its contract: each case of the enum is answered by its number and values.
 use mathlib.Core.Path.{sym, ap, _∙_}
 use borrow.Author.Needs.{needs}
-use Rattle.desugar.specs.Answered.{subrangeAnswer}
+use Rattle.desugar.specs.Bindings.{subrangeAnswer}
 use Rattle.netkat.specs.Entry.{hosted}
 use Rattle.netkat.proofs.netkat_compute_subrange.Statement.{statement}
 use Rattle.netkat.proofs.netkat_compute_subrange.Tie as tie
