@@ -1,8 +1,8 @@
--- What a limit changes: with enough of an allowance nothing, and with less the answer is 24.
+-- What a limit changes: with enough of an allowance nothing, and with less the answer is 24 at the first draw beyond it.
 use mathlib.Core.Path.{_≡_, refl, sym, ap, _∙_}
-use mathlib.Core.Option.{Option, none, some}
-use mathlib.Core.List.{_∷_}
-use Prim.Native.Nat.{ℕ, suc, _+_, _-_, _≤_, _<_}
+use mathlib.Core.Bool.{Bool, true, false, cond}
+use mathlib.Core.List.{List, [], _∷_, _++_, append-assoc, append-nil}
+use Prim.Native.Nat.{ℕ, _+_, _-_, _≤_, _<_}
 use native.Mathlib.Nat.{add-zero, sub-zero}
 use native.Mathlib.Decide.{decLt}
 use native.Mathlib.Omega.{arith}
@@ -13,21 +13,51 @@ use Rattle.expr.specs.Terms.{Binary, Core, Expr, IfThenElse, Let, LetBitRange, 
 use Rattle.desugar.specs.Bindings.{Env, findRange, lookupAlias, lookupVariable, range, variable}
 use Rattle.desugar.specs.Desugar.{desugar}
 use Rattle.desugar.specs.Leaves.{useCore}
-use Rattle.desugar.specs.Meter.{Draws, Meter, _>>=_, drawing, left, lift, spent}
+use Rattle.desugar.specs.Meter.{Draws, Meter, _>>=_, drawing, drawn, left, lift, spent}
 use Rattle.desugar.specs.Negation.{isTest, join, joinDraw, negate}
 use Rattle.desugar.specs.Rules.{boundVariable, knownRange, rangeRule}
 
--- what a step draws in all, up to its result or to the rule that fails: N. An allowance of N is enough, and any below it is refused by 24
+-- ## Lists of draws, each with its place
+
+-- the place of the first draw that goes beyond an allowance n
+abbrev pub overdrawn : ℕ → List (ℕ × ℕ) → ℕ
+overdrawn n [] = 0
+overdrawn n (d ∷ ds) = cond (leb (d .0) n) (overdrawn (n - d .0) ds) (d .1)
+
+pub drawn-append : (ds es : List (ℕ × ℕ)) → drawn (ds ++ es) ≡ drawn ds + drawn es
+drawn-append [] es = omega arith
+drawn-append (d ∷ ds) es = rw (drawn-append ds es) (omega arith)
+
+-- too little for the first draws, or only for those after them
+overdrawn-first : (n : ℕ) (ds es : List (ℕ × ℕ)) → n < drawn ds → overdrawn n (ds ++ es) ≡ overdrawn n ds
+overdrawn-first n [] es p = absurd (omega arith)
+overdrawn-first n (d ∷ ds) es p = go (leb (d .0) n) refl (overdrawn-first (n - d .0) ds es)
+  where
+    go : (b : Bool) → leb (d .0) n ≡ b → (n - d .0 < drawn ds → overdrawn (n - d .0) (ds ++ es) ≡ overdrawn (n - d .0) ds)
+        → cond b (overdrawn (n - d .0) (ds ++ es)) (d .1) ≡ cond b (overdrawn (n - d .0) ds) (d .1)
+    go true e f = let q : d .0 ≤ n = leb-is (d .0) n .0 e in f (omega arith)
+    go false e f = refl
+
+overdrawn-after : (n : ℕ) (ds es : List (ℕ × ℕ)) → drawn ds ≤ n → overdrawn n (ds ++ es) ≡ overdrawn (n - drawn ds) es
+overdrawn-after n [] es p = rw (sub-zero n)
+overdrawn-after n (d ∷ ds) es p =
+    let q : n - d .0 - drawn ds ≡ n - (d .0 + drawn ds) = omega arith in
+    rw (leb-is (d .0) n .1 (omega arith)) (overdrawn-after (n - d .0) ds es (omega arith) ∙ ap (λ m. overdrawn m es) q)
+
+-- ## What each step draws
+
+-- the draws of a step, up to its result or to the rule that fails. An allowance of their sum is enough, and any below it is refused by
+-- 24 at the first draw beyond it
 pub data Costs {A : Type 0} (m : Draws A) : Type 0 where
-  gives : (a : A) (N : ℕ)
-      → ((k : ℕ) → m (spent k) ≡ ok (a, spent (k + N)))
-      → ((n : ℕ) → N ≤ n → m (left n) ≡ ok (a, left (n - N)))
-      → ((n : ℕ) → n < N → (at : ℕ) × (m (left n) ≡ refuse 24 at))
+  gives : (a : A) (ds : List (ℕ × ℕ))
+      → ((k : List (ℕ × ℕ)) → m (spent k) ≡ ok (a, spent (k ++ ds)))
+      → ((n : ℕ) → drawn ds ≤ n → m (left n) ≡ ok (a, left (n - drawn ds)))
+      → ((n : ℕ) → n < drawn ds → m (left n) ≡ refuse 24 (overdrawn n ds))
       → Costs m
-  stops : (r at N : ℕ)
-      → ((k : ℕ) → m (spent k) ≡ refuse r at)
-      → ((n : ℕ) → N ≤ n → m (left n) ≡ refuse r at)
-      → ((n : ℕ) → n < N → (at′ : ℕ) × (m (left n) ≡ refuse 24 at′))
+  stops : (r at : ℕ) (ds : List (ℕ × ℕ))
+      → ((k : List (ℕ × ℕ)) → m (spent k) ≡ refuse r at)
+      → ((n : ℕ) → drawn ds ≤ n → m (left n) ≡ refuse r at)
+      → ((n : ℕ) → n < drawn ds → m (left n) ≡ refuse 24 (overdrawn n ds))
       → Costs m
 
 module _ {A B : Type 0} (m : Draws A) (h : A → Draws B) where
@@ -38,41 +68,48 @@ module _ {A B : Type 0} (m : Draws A) (h : A → Draws B) where
   after-refusal : (k : Meter) {r at : ℕ} → m k ≡ refuse r at → (m >>= h) k ≡ refuse r at
   after-refusal k e = ap (λ (x : Answer (A × Meter)). andThen x (λ r. h (r .0) (r .1))) e
 
-  -- too little for the first step, or for what comes after it
-  too-little : (a : A) (N M n : ℕ) → ((n : ℕ) → N ≤ n → m (left n) ≡ ok (a, left (n - N)))
-      → ((n : ℕ) → n < N → (at : ℕ) × (m (left n) ≡ refuse 24 at)) → ((n : ℕ) → n < M → (at : ℕ) × (h a (left n) ≡ refuse 24 at))
-      → n < N + M → (at : ℕ) × ((m >>= h) (left n) ≡ refuse 24 at)
-  too-little a N M n e l l′ p = pick (decLt n N)
-    where
-      pick : Dec (n < N) → (at : ℕ) × ((m >>= h) (left n) ≡ refuse 24 at)
-      pick (yes q) = (l n q .0, after-refusal (left n) (l n q .1))
-      pick (no q) = let r : n - N < M = omega arith in (l′ (n - N) r .0, after-ok (left n) (e n (omega arith)) ∙ l′ (n - N) r .1)
-
   bind-costs : Costs m → ((a : A) → Costs (h a)) → Costs (m >>= h)
-  bind-costs (gives a N s e l) c = go (c a)
+  bind-costs (gives a ds s e l) c = go (c a)
     where
+      -- too little for the first step, or for what comes after it
+      short : (es : List (ℕ × ℕ)) → ((n : ℕ) → n < drawn es → h a (left n) ≡ refuse 24 (overdrawn n es))
+          → (n : ℕ) → n < drawn (ds ++ es) → (m >>= h) (left n) ≡ refuse 24 (overdrawn n (ds ++ es))
+      short es l′ n p = pick (decLt n (drawn ds))
+        where
+          pick : Dec (n < drawn ds) → (m >>= h) (left n) ≡ refuse 24 (overdrawn n (ds ++ es))
+          pick (yes q) = rw (overdrawn-first n ds es q) (after-refusal (left n) (l n q))
+          pick (no q) =
+              let q′ : drawn ds ≤ n = omega arith in
+              let r : n - drawn ds < drawn es = omega (arith, drawn-append ds es) in
+              rw (overdrawn-after n ds es q′) (after-ok (left n) (e n q′) ∙ l′ (n - drawn ds) r)
+
       go : Costs (h a) → Costs (m >>= h)
-      go (gives b M s′ e′ l′) =
-          gives b (N + M)
-          (λ k. let q : k + N + M ≡ k + (N + M) = omega arith in after-ok (spent k) (s k) ∙ s′ (k + N) ∙ ap (λ t. ok (b, spent t)) q)
-          (λ n p. let q : n - N - M ≡ n - (N + M) = omega arith in
-          after-ok (left n) (e n (omega arith)) ∙ e′ (n - N) (omega arith) ∙ ap (λ t. ok (b, left t)) q)
-          (λ n p. too-little a N M n e l l′ p)
-      go (stops r at M s′ e′ l′) =
-          stops r at (N + M)
-          (λ k. after-ok (spent k) (s k) ∙ s′ (k + N))
-          (λ n p. after-ok (left n) (e n (omega arith)) ∙ e′ (n - N) (omega arith))
-          (λ n p. too-little a N M n e l l′ p)
-  bind-costs (stops r at N s e l) c =
-      stops r at N (λ k. after-refusal (spent k) (s k)) (λ n p. after-refusal (left n) (e n p)) (λ n p. (l n p .0, after-refusal (left n) (l n p .1)))
+      go (gives b es s′ e′ l′) =
+          gives b (ds ++ es)
+          (λ k. after-ok (spent k) (s k) ∙ s′ (k ++ ds) ∙ ap (λ t. ok (b, spent t)) (append-assoc k ds es))
+          (λ n p. let t : drawn (ds ++ es) ≡ drawn ds + drawn es = drawn-append ds es in
+          let q : n - drawn ds - drawn es ≡ n - drawn (ds ++ es) = omega arith in
+          after-ok (left n) (e n (omega arith)) ∙ e′ (n - drawn ds) (omega arith) ∙ ap (λ t. ok (b, left t)) q)
+          (short es l′)
+      go (stops r at es s′ e′ l′) =
+          stops r at (ds ++ es)
+          (λ k. after-ok (spent k) (s k) ∙ s′ (k ++ ds))
+          (λ n p. let t : drawn (ds ++ es) ≡ drawn ds + drawn es = drawn-append ds es in
+          after-ok (left n) (e n (omega arith)) ∙ e′ (n - drawn ds) (omega arith))
+          (short es l′)
+  bind-costs (stops r at ds s e l) c =
+      stops r at ds (λ k. after-refusal (spent k) (s k)) (λ n p. after-refusal (left n) (e n p)) (λ n p. after-refusal (left n) (l n p))
 
 lift-costs : {A : Type 0} (x : Answer A) → Costs (lift x)
-lift-costs (ok a) = gives a 0 (λ k. rw (add-zero k)) (λ n p. rw (sub-zero n)) (λ n p. absurd (omega arith))
-lift-costs (refuse r at) = stops r at 0 (λ k. refl) (λ n p. refl) (λ n p. absurd (omega arith))
+lift-costs (ok a) = gives a [] (λ k. rw (append-nil k)) (λ n p. rw (sub-zero n)) (λ n p. absurd (omega arith))
+lift-costs (refuse r at) = stops r at [] (λ k. refl) (λ n p. refl) (λ n p. absurd (omega arith))
 
 draw-costs : {A : Type 0} (d at : ℕ) (a : A) → Costs (drawing d at a)
 draw-costs d at a =
-    gives a d (λ k. refl) (λ n p. rw (leb-is d n .1 p)) (λ n p. (at, rw (false-of (leb d n) (λ e. absurd (omega (arith, leb-is d n .0 e))))))
+    gives a ((d, at) ∷ [])
+    (λ k. refl)
+    (λ n p. rw (add-zero d, leb-is d n .1 (omega arith)))
+    (λ n p. rw (false-of (leb d n) (λ e. absurd (omega (arith, leb-is d n .0 e)))))
 
 pub desugar-costs : (env : Env Core) (e : Expr) (at : ℕ) → Costs (desugar env e at)
 desugar-costs env (Plain a) at = draw-costs 1 at (leaf a)
@@ -105,8 +142,8 @@ desugar-costs env (Ranged w u) at =
 ok-pair : {a b : Core} {x y : Meter} → _≡_ {A = Answer (Core × Meter)} (ok (a, x)) (ok (b, y)) → (a ≡ b) × (x ≡ y)
 ok-pair {a} {b} {x} {y} e = let p : _≡_ {A = Core × Meter} (a, x) (b, y) = cc in (ap (λ r. r .0) p, ap (λ r. r .1) p)
 
-same-spent : (a b : ℕ) → spent a ≡ spent b → a ≡ b
-same-spent a b e = cc
+same-spent : (ds es : List (ℕ × ℕ)) → spent ds ≡ spent es → ds ≡ es
+same-spent ds es e = cc
 
 same-left : (a b : ℕ) → left a ≡ left b → a ≡ b
 same-left a b e = cc
@@ -114,46 +151,48 @@ same-left a b e = cc
 apart : {r at : ℕ} {x : Core × Meter} → _≡_ {A = Answer (Core × Meter)} (refuse r at) (ok x) → ⊥
 apart e = let z : _≡_ {A = ℕ} 0 1 = cc in absurd (omega arith)
 
--- N is what the walk draws in all, up to its result or to the rule that fails.
--- With an allowance of at least N the answer is the one without limit, and N is taken from the allowance; with less it is 24
-pub record Limit (env : Env Core) (e : Expr) (at N : ℕ) : Type 0 where
-  pub total : (k t : ℕ) (c : Core) → desugar env e at (spent k) ≡ ok (c, spent t) → t ≡ k + N
-  pub taken : (n m : ℕ) (c : Core) → desugar env e at (left n) ≡ ok (c, left m) → n ≡ m + N
-  pub enough : (n k : ℕ) → N ≤ n → mapAnswer (λ r. r .0) (desugar env e at (left n)) ≡ mapAnswer (λ r. r .0) (desugar env e at (spent k))
-  pub short : (n : ℕ) → n < N → (p : ℕ) × (desugar env e at (left n) ≡ refuse 24 p)
+-- ds are the draws of the walk in order, up to its result or to the rule that fails.
+-- With an allowance of at least their sum the answer is the one without limit, and the sum is taken from the allowance; with less it
+-- is 24, at the place of the first draw beyond it
+pub record Limit (env : Env Core) (e : Expr) (at : ℕ) (ds : List (ℕ × ℕ)) : Type 0 where
+  pub total : (k t : List (ℕ × ℕ)) (c : Core) → desugar env e at (spent k) ≡ ok (c, spent t) → t ≡ k ++ ds
+  pub taken : (n m : ℕ) (c : Core) → desugar env e at (left n) ≡ ok (c, left m) → n ≡ m + drawn ds
+  pub enough : (n : ℕ) (k : List (ℕ × ℕ)) → drawn ds ≤ n
+      → mapAnswer (λ r. r .0) (desugar env e at (left n)) ≡ mapAnswer (λ r. r .0) (desugar env e at (spent k))
+  pub short : (n : ℕ) → n < drawn ds → desugar env e at (left n) ≡ refuse 24 (overdrawn n ds)
 
-pub limit : (env : Env Core) (e : Expr) (at : ℕ) → (N : ℕ) × Limit env e at N
+pub limit : (env : Env Core) (e : Expr) (at : ℕ) → (ds : List (ℕ × ℕ)) × Limit env e at ds
 limit env e at = go (desugar-costs env e at)
   where
     first : Answer (Core × Meter) → Answer Core
     first x = mapAnswer (λ r. r .0) x
 
-    go : Costs (desugar env e at) → (N : ℕ) × Limit env e at N
-    go (gives a N s g l) = (
-      N,
+    go : Costs (desugar env e at) → (ds : List (ℕ × ℕ)) × Limit env e at ds
+    go (gives a ds s g l) = (
+      ds,
       record {
-        total = λ k t c h. same-spent t (k + N) (ok-pair (sym h ∙ s k) .1);
-        taken = λ n m c h. pick n m c h (decLt n N);
+        total = λ k t c h. same-spent t (k ++ ds) (ok-pair (sym h ∙ s k) .1);
+        taken = λ n m c h. pick n m c h (decLt n (drawn ds));
         enough = λ n k p. ap first (g n p) ∙ sym (ap first (s k));
         short = l;
       },
     )
       where
-        pick : (n m : ℕ) (c : Core) → desugar env e at (left n) ≡ ok (c, left m) → Dec (n < N) → n ≡ m + N
-        pick n m c h (yes q) = absurd (apart (sym (l n q .1) ∙ h))
+        pick : (n m : ℕ) (c : Core) → desugar env e at (left n) ≡ ok (c, left m) → Dec (n < drawn ds) → n ≡ m + drawn ds
+        pick n m c h (yes q) = absurd (apart (sym (l n q) ∙ h))
         pick n m c h (no q) =
-            let z : m ≡ n - N = same-left m (n - N) (ok-pair (sym h ∙ g n (omega arith)) .1) in
+            let z : m ≡ n - drawn ds = same-left m (n - drawn ds) (ok-pair (sym h ∙ g n (omega arith)) .1) in
             omega arith
-    go (stops r p N s g l) = (
-      N,
+    go (stops r p ds s g l) = (
+      ds,
       record {
         total = λ k t c h. absurd (apart (sym (s k) ∙ h));
-        taken = λ n m c h. absurd (pick n m c h (decLt n N));
+        taken = λ n m c h. absurd (pick n m c h (decLt n (drawn ds)));
         enough = λ n k q. ap first (g n q) ∙ sym (ap first (s k));
         short = l;
       },
     )
       where
-        pick : (n m : ℕ) (c : Core) → desugar env e at (left n) ≡ ok (c, left m) → Dec (n < N) → ⊥
-        pick n m c h (yes q) = apart (sym (l n q .1) ∙ h)
+        pick : (n m : ℕ) (c : Core) → desugar env e at (left n) ≡ ok (c, left m) → Dec (n < drawn ds) → ⊥
+        pick n m c h (yes q) = apart (sym (l n q) ∙ h)
         pick n m c h (no q) = apart (sym (g n (omega arith)) ∙ h)

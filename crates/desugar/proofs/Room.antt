@@ -1,34 +1,36 @@
 -- A core is never larger than what was drawn to make it: so an allowance bounds the work memory too.
-use mathlib.Core.Path.{_≡_, refl, sym, ap, subst, _∙_}
+use mathlib.Core.Path.{_≡_, refl, ap, _∙_}
 use mathlib.Core.Bool.{Bool, true, false, cond, _||_}
-use mathlib.Core.Option.{Option, none, some}
-use mathlib.Core.List.{_∷_}
+use mathlib.Core.List.{List, [], _∷_, _++_, append-assoc}
 use Prim.Native.Nat.{ℕ, _+_, _-_, _≤_}
+use native.Mathlib.Nat.{add-zero}
 use native.Mathlib.Omega.{arith}
 use Rattle.expr.specs.Answers.{Answer, andThen, need, ok, refuse}
 use Rattle.expr.specs.Terms.{Binary, Core, Difference, Expr, IfThenElse, Intersect, Let, LetBitRange, LtlUntil, Op2, Plain, Ranged, Sequence, TestNegation, Unary, Union, Var, Xor, leaf, one, records, size, two}
 use Rattle.desugar.specs.Bindings.{Env, findRange, lookupAlias, lookupVariable, range, variable}
 use Rattle.desugar.specs.Desugar.{desugar}
 use Rattle.desugar.specs.Leaves.{useCore}
-use Rattle.desugar.specs.Meter.{Draws, Meter, _>>=_, drawing, lift, spent}
+use Rattle.desugar.specs.Meter.{Draws, Meter, _>>=_, drawing, drawn, lift, spent}
 use Rattle.desugar.specs.Negation.{isOne, isTest, join, joinDraw, negate}
 use Rattle.desugar.specs.Rules.{boundVariable, knownRange, rangeRule}
+use Rattle.desugar.proofs.Limit.{drawn-append}
 
--- P holds of a result and what was drawn for it, if there is a result; k was spent before
-pub data Weighed {A : Type 0} (P : A → ℕ → Type 0) (k : ℕ) : Answer (A × Meter) → Type 0 where
-  weighed : (a : A) (d t : ℕ) → t ≡ k + d → P a d → Weighed P k (ok (a, spent t))
+-- P holds of a result and the sum of the draws made for it, if there is a result; k are the draws before
+pub data Weighed {A : Type 0} (P : A → ℕ → Type 0) (k : List (ℕ × ℕ)) : Answer (A × Meter) → Type 0 where
+  weighed : (a : A) (ds t : List (ℕ × ℕ)) → t ≡ k ++ ds → P a (drawn ds) → Weighed P k (ok (a, spent t))
   declined : (r at : ℕ) → Weighed P k (refuse r at)
 
 abbrev pub Weighs : {A : Type 0} → (A → ℕ → Type 0) → Draws A → Type 0
-Weighs P m = (k : ℕ) → Weighed P k (m (spent k))
+Weighs P m = (k : List (ℕ × ℕ)) → Weighed P k (m (spent k))
 
-further : {A : Type 0} (Q : A → ℕ → Type 0) (d : ℕ) {k t : ℕ} {x : Answer (A × Meter)} → t ≡ k + d → Weighed (λ b d′. Q b (d + d′)) t x → Weighed Q k x
-further Q d e (weighed b d′ u f q) = weighed b (d + d′) u (omega arith) q
-further Q d e (declined r at) = declined r at
+further : {A : Type 0} (Q : A → ℕ → Type 0) (ds : List (ℕ × ℕ)) {k t : List (ℕ × ℕ)} {x : Answer (A × Meter)}
+    → t ≡ k ++ ds → Weighed (λ b d. Q b (drawn ds + d)) t x → Weighed Q k x
+further Q ds {k} e (weighed b es u f q) = weighed b (ds ++ es) u (f ∙ ap (λ t. t ++ es) e ∙ append-assoc k ds es) (rw (drawn-append ds es) q)
+further Q ds e (declined r at) = declined r at
 
-bind-weighed : {A B : Type 0} (P : A → ℕ → Type 0) (Q : B → ℕ → Type 0) {k : ℕ} {x : Answer (A × Meter)} (h : A → Draws B)
+bind-weighed : {A B : Type 0} (P : A → ℕ → Type 0) (Q : B → ℕ → Type 0) {k : List (ℕ × ℕ)} {x : Answer (A × Meter)} (h : A → Draws B)
     → Weighed P k x → ((a : A) (d : ℕ) → P a d → Weighs (λ b d′. Q b (d + d′)) (h a)) → Weighed Q k (andThen x (λ r. h (r .0) (r .1)))
-bind-weighed P Q h (weighed a d t e p) g = further Q d e (g a d p t)
+bind-weighed P Q h (weighed a ds t e p) g = further Q ds e (g a (drawn ds) p t)
 bind-weighed P Q h (declined r at) g = declined r at
 
 bind-weighs : {A B : Type 0} (P : A → ℕ → Type 0) (Q : B → ℕ → Type 0) (m : Draws A) (h : A → Draws B)
@@ -41,7 +43,7 @@ lift-weighs Q (ok a) h g k = g a k
 lift-weighs Q (refuse r at) h g k = declined r at
 
 draw-weighs : {A : Type 0} (Q : A → ℕ → Type 0) (n at : ℕ) (a : A) → Q a n → Weighs Q (drawing n at a)
-draw-weighs Q n at a q k = weighed a n (k + n) refl q
+draw-weighs Q n at a q k = weighed a ((n, at) ∷ []) (k ++ (n, at) ∷ []) refl (rw (add-zero n) q)
 
 size-of-sequence : (a b : Core) (x y : Bool) → size (cond x b (cond y a (two Sequence a b))) ≤ size a + size b + cond (x || y) 0 1
 size-of-sequence a b true y = omega arith
@@ -78,14 +80,14 @@ join-draws LtlUntil a b = node
 abbrev pub Fits : Core → ℕ → Type 0
 Fits c d = size c ≤ d
 
-more-drawn : (i k : ℕ) {x : Answer (Core × Meter)} → Weighed Fits k x → Weighed (λ c n. Fits c (i + n)) k x
-more-drawn i k (weighed a d t e p) = weighed a d t e (omega arith)
+more-drawn : (i : ℕ) (k : List (ℕ × ℕ)) {x : Answer (Core × Meter)} → Weighed Fits k x → Weighed (λ c n. Fits c (i + n)) k x
+more-drawn i k (weighed a ds t e p) = weighed a ds t e (omega arith)
 more-drawn i k (declined r at) = declined r at
 
 weaker : (i : ℕ) (m : Draws Core) → Weighs Fits m → Weighs (λ c n. Fits c (i + n)) m
 weaker i m w k = more-drawn i k (w k)
 
--- the core that desugaring gives is no larger than what it drew
+-- the core that desugaring gives is no larger than the sum of the draws made for it
 pub desugar-fits : (env : Env Core) (e : Expr) (at : ℕ) → Weighs Fits (desugar env e at)
 desugar-fits env (Plain a) at = draw-weighs Fits 1 at (leaf a) (omega arith)
 desugar-fits env (Unary o e) at =

@@ -3,7 +3,7 @@ use mathlib.Core.{Bool._&&_, List.List, List.[], List._∷_}
 use Prim.Native.Nat.{ℕ, _+_, _-_, _*_}
 use lib.{Dec.leb}
 use Rattle.expr.specs.{Answers.Answer, Answers.ok, Answers.andThen, Answers.need, Terms.Union, Terms.Sequence, Terms.Core, Terms.leaf, Terms.one, Terms.two, Terms.Expr, Terms.Plain, Terms.Unary, Terms.Binary, Terms.TestNegation, Terms.IfThenElse, Terms.Let, Terms.LetBitRange, Terms.Var, Terms.Ranged, Terms.records, Terms.size, Form.decode, Form.encodeCore, Operations.intoRoom}
-use Rattle.desugar.specs.{Bindings.Env, Bindings.variable, Bindings.range, Bindings.lookupVariable, Bindings.lookupAlias, Bindings.findRange, Meter.Meter, Meter.spent, Meter.left, Meter.Draws, Meter._>>=_, Meter.lift, Meter.drawing, Rules.knownRange, Rules.boundVariable, Rules.rangeRule, Leaves.useCore, Negation.isTest, Negation.join, Negation.joinDraw, Negation.negate}
+use Rattle.desugar.specs.{Bindings.Env, Bindings.variable, Bindings.range, Bindings.lookupVariable, Bindings.lookupAlias, Bindings.findRange, Meter.Meter, Meter.spent, Meter.left, Meter.Draws, Meter._>>=_, Meter.lift, Meter.drawing, Meter.drawn, Rules.knownRange, Rules.boundVariable, Rules.rangeRule, Leaves.useCore, Negation.isTest, Negation.join, Negation.joinDraw, Negation.negate}
 
 -- "Children go left to right, then the node's own rules and draw.": a term that begins at a record, under the bindings around it.
 -- "desugaring judges 22 and 23 on the core it has made". The draws: "a leaf, its whole core; Var, the copy; a negation, its result; .."
@@ -49,10 +49,9 @@ workFor n = 8 * n + 8192
 -- what was drawn of an allowance n
 abbrev pub drawnOf : ℕ → Meter → ℕ
 drawnOf n (left m) = n - m
-drawnOf n (spent m) = m
+drawnOf n (spent ds) = drawn ds
 
--- "Desugar: 9 ..; 10 ..; form; rules and 24 ..; 26 ..": the core's bytes and the drawn total, of an allowance n, work memory and an
--- answer buffer of these lengths
+-- "Desugar: 9 ..; 10 ..; form; rules and 24 ..; 26 ..": the core's bytes and the drawn total. n is the allowance, the others lengths
 abbrev pub desugarBytes : (bs : List ℕ) (n work room : ℕ) → Answer (List ℕ × ℕ)
 desugarBytes bs n work room =
     andThen (need (leb 1 n && leb n maxAllowance) 9 0) λ _.

@@ -5,3 +5,4 @@ pub mod TermShape
 pub mod NodeForm
 pub mod TermForm
 pub mod FormTheorem
+pub mod Substitution

@@ -5,8 +5,6 @@ use lib.{Dec.ltb, Dec.eqb, ListN.length, ListN.getD}
 use Rattle.literals.specs.{Bits.Bits, Bits.bit, Patterns.Pattern, Patterns.Exact, Patterns.Cidr, Patterns.Wildcard, Patterns.IpRange, Reading.Read, Reading.got, Reading.fault, Reading.maxLiteral}
 use Rattle.expr.specs.{Answers.Answer, Answers.ok, Answers.refuse, Answers.andThen, Answers.need, Terms.Atom, Terms.Zero, Terms.One, Terms.Top, Terms.Dup, Terms.End, Terms.Assign, Terms.Test, Terms.Op1, Terms.Complement, Terms.Star, Terms.LtlNext, Terms.Op2, Terms.Union, Terms.Intersect, Terms.Xor, Terms.Difference, Terms.Sequence, Terms.LtlUntil, Terms.Core, Terms.leaf, Terms.one, Terms.two, Terms.Where, Terms.Direct, Terms.Alias, Terms.Use, Terms.Assigns, Terms.Tests, Terms.Matches, Terms.Expr, Terms.Plain, Terms.Unary, Terms.Binary, Terms.TestNegation, Terms.IfThenElse, Terms.Let, Terms.LetBitRange, Terms.Var, Terms.Ranged, Terms.atomKind, Terms.op1Kind, Terms.op2Kind, Terms.records, Terms.depth, Records.Record, Records.readRecord, Records.writeRecord}
 
--- ## Reading
-
 -- "6 more than 4,096 records, 7 depth over 256"
 abbrev pub maxRecords : ℕ
 maxRecords = 4096
@@ -47,7 +45,6 @@ pub record Parsed : Type 0 where
   pub next : ℕ
   pub rest : List ℕ
 
--- reading from a record's index on
 abbrev pub Parses : Type 0
 Parses = ℕ → List ℕ → Answer Parsed
 
@@ -87,9 +84,7 @@ wholeTerm r (b ∷ bs) = refuse 8 (r .next)
 abbrev pub decode : List ℕ → Answer Expr
 decode bs = andThen (parse maxDepth 0 bs) λ r. wholeTerm r r.rest
 
--- ## Writing
-
--- a record with its kind alone
+-- Writing: a record with its kind alone, and one for each kind of term
 abbrev pub plainRecord : ℕ → Record
 plainRecord k = record { kind = k; name = 0; start = 0; end = 0; pattern = 0; number = 0; litA = []; litB = [] }
 
@@ -142,8 +137,6 @@ written (two o a b) = Binary o (written a) (written b)
 
 abbrev pub encodeCore : Core → List ℕ
 encodeCore c = encode (written c)
-
--- ## The limits
 
 -- "Bit 0 kind (1 byte); 1 name (2); 2 start or field (4); ..": numbers that their bytes can hold, and literals not too long
 pub record RecordFits (h : Record) : Type 0 where

@@ -35,10 +35,6 @@ atomFields End = 0
 atomFields (Assign f v) = f + 1
 atomFields (Test f v) = f + 1
 
-abbrev pub rangeFields : Where → ℕ
-rangeFields (Direct s e) = e
-rangeFields (Alias x) = 0
-
 -- "25 at the first Assign or Test of field 4,294,967,295", whose count is beyond 32 bits
 abbrev pub numFields : Expr → ℕ → Answer ℕ
 numFields (Plain a) at = andThen (need (ltb (atomFields a) (2 ^ 32)) 25 at) λ _. ok (atomFields a)
@@ -59,7 +55,8 @@ numFields (Let x d b) at =
     ok (max m n)
 numFields (LetBitRange x s e b) at = mapAnswer (max e) (numFields b (at + 1))
 numFields (Var x) at = ok 0
-numFields (Ranged w u) at = ok (rangeFields w)
+numFields (Ranged (Direct s e) u) at = ok e
+numFields (Ranged (Alias x) u) at = ok 0
 
 -- "Field count: form, then 25"
 abbrev pub fieldsBytes : List ℕ → Answer ℕ

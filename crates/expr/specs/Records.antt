@@ -41,8 +41,7 @@ isMatch k = leb 25 k
 abbrev pub fitsPattern : ℕ → ℕ → ℕ → Bool
 fitsPattern k p m = not (isMatch k) || ((not (bitAt 5 m) || eqb p 1) && (not (bitAt 7 m) || leb 2 p))
 
--- "1 bytes used up. Then the kind, if its bit stands: ..": the map, the kind, 3, then the fields in map order. "4 pattern (.. over 3
--- is 5); 5 number (.. the value of Assign and Test, only 1 allowed, else 5; or a CIDR prefix)"
+-- "1 bytes used up. Then the kind, if its bit stands: ..": the map, the kind, 3, then the fields in map order, each by its own rules
 abbrev pub readRecord : Reads Record
 readRecord =
     byte >>= λ m.

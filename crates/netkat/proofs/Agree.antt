@@ -3,7 +3,7 @@
 use mathlib.Core.Path.{_≡_, refl}
 use mathlib.Core.Bool.{Bool, _||_}
 use mathlib.Core.Option.{Option, none, some}
-use mathlib.Core.List.{_∷_}
+use mathlib.Core.List.{List, [], _∷_, _++_}
 use Prim.Native.Nat.{ℕ, _+_, _-_}
 use lib.Dec.{eqb}
 use Rattle.expr.specs.Answers.{Answer, andThen, ok, refuse}
@@ -20,14 +20,14 @@ use Rattle.desugar.proofs.EnvLaws.{find-range-map, lookup-alias-map, lookup-var
 use Rattle.desugar.proofs.Sorts.{test-of-join, test-of-negate, test-of-use}
 use Rattle.netkat.proofs.CheckWalk.{checkWalk}
 
--- a result with what was spent beside what f sees of it, or one refusal beside itself
+-- a result with the draws made beside what f sees of it, or one refusal beside itself
 pub data Seen {A B : Type 0} (f : A → B) : Answer (A × Meter) → Answer B → Type 0 where
-  seen : (a : A) (k : ℕ) → Seen f (ok (a, spent k)) (ok (f a))
+  seen : (a : A) (k : List (ℕ × ℕ)) → Seen f (ok (a, spent k)) (ok (f a))
   refused : (r at : ℕ) → Seen f (refuse r at) (refuse r at)
 
--- whatever was spent before
+-- whatever was drawn before
 abbrev pub Sees : {A B : Type 0} → (A → B) → Draws A → Answer B → Type 0
-Sees f m b = (k : ℕ) → Seen f (m (spent k)) b
+Sees f m b = (k : List (ℕ × ℕ)) → Seen f (m (spent k)) b
 
 bind-seen : {A B C D : Type 0} {f : A → B} {g : C → D} {x : Answer (A × Meter)} {y : Answer B} (h : A → Draws C) (h′ : B → Answer D)
     → Seen f x y → ((a : A) → Sees g (h a) (h′ (f a))) → Seen g (andThen x (λ r. h (r .0) (r .1))) (andThen y h′)
@@ -39,7 +39,7 @@ bind-sees : {A B C D : Type 0} {f : A → B} {g : C → D} (m : Draws A) {y : An
 bind-sees m h h′ s t k = bind-seen h h′ (s k) t
 
 draw-sees : {A B : Type 0} (f : A → B) (n at : ℕ) (a : A) {b : B} → f a ≡ b → Sees f (drawing n at a) (ok b)
-draw-sees f n at a e k = rw (← e) (seen a (k + n))
+draw-sees f n at a e k = rw (← e) (seen a (k ++ (n, at) ∷ []))
 
 -- after a rule, which is known to hold from there on
 rule-sees : {P : Type 0} {C D : Type 0} {g : C → D} {x : Answer (Unit {0})} (h : Draws C) (h′ : Answer D)
@@ -49,7 +49,7 @@ rule-sees h h′ (fails r at n) s k = refused r at
 
 variable-sees : (o : Option Core) (r : Option (ℕ × ℕ)) (at : ℕ)
     → Sees isTest (lift (boundVariable o r at) >>= (λ c. drawing (size c) at c)) (boundVariable (mapOption isTest o) r at)
-variable-sees (some c) r at k = seen c (k + size c)
+variable-sees (some c) r at k = seen c (k ++ (size c, at) ∷ [])
 variable-sees none (some r) at k = refused 13 at
 variable-sees none none at k = refused 12 at
 

@@ -46,8 +46,8 @@ refusal-of s (refuse q p) e = go q p _ _ e
     go q p r at e = cc
 
 -- desugaring under cores that have the sorts of the variables around goes as Check does
-seen-at : (sc : Scope) (env : Env Core) (e : Expr) (at : ℕ) → mapEnv isTest env ≡ sorts sc → Seen isTest (desugar env e at (spent 0)) (check sc e at)
-seen-at sc env e at s = rw (s, check-is-walk sc e at) at (agree env e at 0)
+pub seen-at : (sc : Scope) (env : Env Core) (e : Expr) (at : ℕ) → mapEnv isTest env ≡ sorts sc → Seen isTest (desugar env e at (spent [])) (check sc e at)
+seen-at sc env e at s = rw (s, check-is-walk sc e at) at (agree env e at [])
 
 cored : (sc : Scope) → Cored sc (cores sc)
 cored [] = made [] refl refl
@@ -75,13 +75,13 @@ cored (variable x d ∷ sc) = go (cored sc)
     own env f q (refused r at) e = failed r at (both f ∙ refusal-of (testSort (sorts sc) (d .0)) (firstFailure (walk sc (d .0) (d .1))) (sym e))
 
     go : {y : Answer (Env Core)} → Cored sc y
-        → Cored (variable x d ∷ sc) (andThen y λ env. andThen (desugar env (d .0) (d .1) (spent 0)) λ r. ok (variable x (r .0) ∷ env))
+        → Cored (variable x d ∷ sc) (andThen y λ env. andThen (desugar env (d .0) (d .1) (spent [])) λ r. ok (variable x (r .0) ∷ env))
     go (made env f q) = own env f q (seen-at sc env (d .0) (d .1) q) refl
     go (failed r at f) = failed r at (both f)
 
 -- ## The answer at a point
 
-seen-answer : {x : Answer (Core × Meter)} {y : Answer Bool} → Seen isTest x y → mapAnswer isTest (mapAnswer (λ r. r .0) x) ≡ y
+pub seen-answer : {x : Answer (Core × Meter)} {y : Answer Bool} → Seen isTest x y → mapAnswer isTest (mapAnswer (λ r. r .0) x) ≡ y
 seen-answer (seen a k) = refl
 seen-answer (refused r at) = refl
 
@@ -92,7 +92,7 @@ pub desugar-at-answers : (sc : Scope) (e : Expr) (at : ℕ)
 desugar-at-answers sc e at = go (cored sc)
   where
     go : {y : Answer (Env Core)} → Cored sc y
-        → mapAnswer isTest (andThen y λ env. mapAnswer (λ r. r .0) (desugar env e at (spent 0)))
+        → mapAnswer isTest (andThen y λ env. mapAnswer (λ r. r .0) (desugar env e at (spent [])))
         ≡ andThen (firstFailure (definitions sc ++ walk sc e at)) (λ _. ok (testSort (sorts sc) e))
     go (made env f q) = seen-answer (seen-at sc env e at q) ∙ sym (around (definitions sc) (walk sc e at) (ok (testSort (sorts sc) e)) f)
     go (failed r p f) = sym (around (definitions sc) (walk sc e at) (ok (testSort (sorts sc) e)) f)
@@ -122,8 +122,8 @@ then-ok (refuse r at) f b h = let z : _≡_ {A = ℕ} 0 1 = cc in absurd (omega 
 
 module _ (others : Others) where
   core-means : (cs : Env Core) (Rs : Env Relation) (e : Expr) (at : ℕ) (r : Core × Meter) → EnvMeans others cs Rs → OneStep e
-      → desugar cs e at (spent 0) ≡ ok r → coreMeans others (r .0) ≈ means others Rs e
-  core-means cs Rs e at r hs o h = subst (IfOk (λ c. coreMeans others c ≈ means others Rs e)) h (desugar-means others hs e o at (spent 0))
+      → desugar cs e at (spent []) ≡ ok r → coreMeans others (r .0) ≈ means others Rs e
+  core-means cs Rs e at r hs o h = subst (IfOk (λ c. coreMeans others c ≈ means others Rs e)) h (desugar-means others hs e o at (spent []))
 
   cores-mean : (sc : Scope) → OneSteps sc → (env : Env Core) → cores sc ≡ ok env → EnvMeans others env (meanings others sc)
   cores-mean [] o env h = let e : env ≡ [] = cc in rw e nothing
@@ -132,8 +132,8 @@ module _ (others : Others) where
       let q : env ≡ range x s e ∷ k .0 = cc (k .2) in
       rw q (ranges (cores-mean sc o (k .0) (k .1)))
   cores-mean (variable x d ∷ sc) o env h =
-      let k = then-ok (cores sc) (λ env. andThen (desugar env (d .0) (d .1) (spent 0)) λ r. ok (variable x (r .0) ∷ env)) env h in
-      let l = then-ok (desugar (k .0) (d .0) (d .1) (spent 0)) (λ r. ok (variable x (r .0) ∷ k .0)) env (k .2) in
+      let k = then-ok (cores sc) (λ env. andThen (desugar env (d .0) (d .1) (spent [])) λ r. ok (variable x (r .0) ∷ env)) env h in
+      let l = then-ok (desugar (k .0) (d .0) (d .1) (spent [])) (λ r. ok (variable x (r .0) ∷ k .0)) env (k .2) in
       let q : env ≡ variable x (l .0 .0) ∷ k .0 = cc (l .2) in
       let hs : EnvMeans others (k .0) (meanings others sc) = cores-mean sc (o .1) (k .0) (k .1) in
       rw q (variables (core-means (k .0) (meanings others sc) (d .0) (d .1) (l .0) hs (o .0) (l .1)) hs)
@@ -142,10 +142,10 @@ module _ (others : Others) where
   pub desugar-at-means : (sc : Scope) (e : Expr) (at : ℕ) → OneSteps sc → OneStep e → (c : Core) → desugarAt sc e at ≡ ok c
       → coreMeans others c ≈ meansAt others sc e
   desugar-at-means sc e at os o c h =
-      let k = then-ok (cores sc) (λ env. mapAnswer (λ r. r .0) (desugar env e at (spent 0))) c h in
-      go (desugar (k .0) e at (spent 0)) refl (cores-mean sc os (k .0) (k .1)) (k .2)
+      let k = then-ok (cores sc) (λ env. mapAnswer (λ r. r .0) (desugar env e at (spent []))) c h in
+      go (desugar (k .0) e at (spent [])) refl (cores-mean sc os (k .0) (k .1)) (k .2)
     where
-      go : {env : Env Core} (x : Answer (Core × Meter)) → desugar env e at (spent 0) ≡ x → EnvMeans others env (meanings others sc)
+      go : {env : Env Core} (x : Answer (Core × Meter)) → desugar env e at (spent []) ≡ x → EnvMeans others env (meanings others sc)
           → mapAnswer (λ r. r .0) x ≡ ok c → coreMeans others c ≈ meansAt others sc e
       go {env} (ok r) p hs q = let z : r .0 ≡ c = cc in rw (← z) (core-means env (meanings others sc) e at r hs o p)
       go (refuse r at) p hs q = let z : _≡_ {A = ℕ} 0 1 = cc in absurd (omega arith)

@@ -7,10 +7,12 @@ use mathlib.Core.List.{List, [], _∷_, _++_, map, List·Memᴰ}
 use Prim.Native.Nat.{ℕ, _+_, _-_, _≤_, _<_}
 use native.Mathlib.Nat.{zero-add}
 use lib.ListN.{length, getD}
-use Rattle.literals.specs.Bits.{Bits, bitAt, valueOf}
+use Rattle.literals.specs.Bits.{Bits, Bytes, bitAt, valueOf}
 use Rattle.literals.specs.Patterns.{Cidr, Exact, IpRange, Wildcard}
-use Rattle.expr.specs.Answers.{andThen, mapAnswer, ok}
+use Rattle.expr.specs.Answers.{andThen, mapAnswer, ok, refuse}
+use Rattle.expr.specs.Form.{Within, decode, encode}
 use Rattle.expr.specs.Terms.{Assigns, Core, Expr, Matches, Tests, Where, records}
+use Rattle.expr.proofs.FormTheorem.{bytes-of-encode, decode-encode, form-exact}
 use Rattle.desugar.specs.Bindings.{Env}
 use Rattle.desugar.specs.Desugar.{desugarBytes}
 use Rattle.desugar.specs.Leaves.{useCore}
@@ -25,7 +27,18 @@ use Rattle.netkat.specs.Points.{OneSteps, Point, Scope, definitions, des
 use Rattle.netkat.proofs.AtPoint.{desugar-at-answers, desugar-at-means, desugar-at-succeeds}
 use Rattle.netkat.proofs.Inside.{PointAt, each-record, inside-points, walk-inside, walk-length}
 use Rattle.netkat.proofs.Rules.{behind-rule, none-fails, rules-append}
-use Rattle.netkat.proofs.Whole.{Desugared, Desugars, Good, check-bytes, desugar-bytes, desugared-bytes}
+use Rattle.netkat.proofs.Whole.{Desugared, Desugars, Good, Refusal, check-bytes, desugar-bytes, desugared-bytes, refused-bytes}
+
+-- ## Form: what is accepted
+
+-- A list of bytes is accepted exactly if it is the encoding of a term within the limits (expr/specs/Form.antt: Within), and then it
+-- is read as that term: "all other input is accepted", and nothing is read in two ways
+pub form-theorem : (bs : List ℕ) (e : Expr) → Bytes bs → (decode bs ≡ ok e) ↔ (Within e × (bs ≡ encode e))
+form-theorem = form-exact
+
+-- and every term within the limits has such an encoding
+pub encode-theorem : (e : Expr) → Within e → Bytes (encode e) × (decode (encode e) ≡ ok e)
+encode-theorem e w = (bytes-of-encode e (w .fits), decode-encode e w)
 
 -- ## Demand 2: each form holds of, or sets, exactly its values
 
@@ -64,9 +77,10 @@ module _ (others : Others) (w : Where) (s e at : ℕ) where
 
 -- ## The allowance
 
--- What desugaring draws in all, up to its result or to the rule that fails, is a threshold: with an allowance of at least that the
--- answer is the one without limit and that much is taken; with less it is 24 (desugar/proofs/Limit.antt: Limit)
-pub limit-theorem : (env : Env Core) (e : Expr) (at : ℕ) → (N : ℕ) × Limit env e at N
+-- The sum of the draws in walking order, up to the result or to the rule that fails, is a threshold: with an allowance of at least
+-- that the answer is the one without limit and that much is taken; with less it is 24 at the first draw beyond the allowance
+-- (desugar/proofs/Limit.antt: Limit, overdrawn)
+pub limit-theorem : (env : Env Core) (e : Expr) (at : ℕ) → (ds : List (ℕ × ℕ)) × Limit env e at ds
 limit-theorem = limit
 
 -- ## Demand 3: at any point of any term
@@ -113,18 +127,25 @@ everywhere e s h p m =
 pub check-theorem : (bs : List ℕ) → ((s : Bool) × (checkBytes bs ≡ ok s)) ↔ ((e : Expr) × Good bs e)
 check-theorem = check-bytes
 
--- "where Check succeeds, Desugar succeeds or answers 9, 10, 24 or 26, each only for its cause above" (Whole.antt: Desugars, Outcome)
+-- "where Check succeeds, Desugar succeeds or answers 9, 10, 24 or 26, each only for its cause above", 24 at the first draw
+-- beyond the allowance (Whole.antt: Desugars, Outcome)
 pub desugar-theorem : (bs : List ℕ) (s : Bool) → checkBytes bs ≡ ok s → (e : Expr) × Desugars bs e
 desugar-theorem bs s h = let g = check-bytes bs .0 (s, h) in (g .0, desugar-bytes bs (g .0) (g .1))
 
--- "where Desugar succeeds, Check refuses by neither form nor rule, and the bytes Desugar wrote are those of the core made without limit"
+-- "where Desugar succeeds, Check refuses by neither form nor rule, and the bytes Desugar wrote are those of the core made without limit",
+-- with the sum of its draws (Whole.antt: Desugared)
 pub desugared-theorem : (bs : List ℕ) (n work room : ℕ) (out : List ℕ) (m : ℕ) → desugarBytes bs n work room ≡ ok (out, m)
     → ((s : Bool) × (checkBytes bs ≡ ok s)) × Desugared bs out m
 desugared-theorem bs n work room out m h =
     let d : Desugared bs out m = desugared-bytes bs n work room out m h in
     (check-bytes bs .1 (d .term, d .good), d)
 
+-- where Check refuses, Desugar answers 9, 10 or the same refusal, or 24 where the allowance is spent before the rule that fails
+-- (Whole.antt: Refusal)
+pub refused-theorem : (bs : List ℕ) (r p : ℕ) → checkBytes bs ≡ refuse r p → (n work room : ℕ) → Refusal bs r p n work (desugarBytes bs n work room)
+refused-theorem = refused-bytes
+
 -- ## The starred probes
 
-pub probes-theorem : map (λ p. asked (p .0)) starred ≡ map (λ p. ok (p .1)) starred
-probes-theorem = starred-probes
+pub starred-theorem : map (λ p. asked (p .0)) starred ≡ map (λ p. ok (p .1)) starred
+starred-theorem = starred-probes

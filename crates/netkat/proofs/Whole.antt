@@ -1,28 +1,26 @@
 -- The whole term on its bytes: Check and Desugar beside each other, whatever the allowance and the buffers.
-use mathlib.Core.Path.{_≡_, refl, sym, ap, subst, _∙_}
+use mathlib.Core.Path.{_≡_, refl, sym, ap, _∙_}
 use mathlib.Core.Logic.{_↔_}
 use mathlib.Core.Bool.{Bool, true, false, _&&_, false≢true}
-use mathlib.Core.List.{List, [], _∷_}
-use Prim.Native.Nat.{ℕ, _+_, _-_, _≤_, _<_}
-use native.Mathlib.Nat.{zero-add}
+use mathlib.Core.List.{List, []}
+use Prim.Native.Nat.{ℕ, _-_, _≤_, _<_}
 use native.Mathlib.Decide.{decLt}
 use native.Mathlib.Omega.{arith}
 use lib.Dec.{leb}
 use lib.ListN.{length}
 use Rattle.literals.proofs.Logic.{and-iff, leb-is, not-le-of}
-use Rattle.expr.specs.Answers.{Answer, andThen, need, ok, refuse}
+use Rattle.expr.specs.Answers.{Answer, andThen, mapAnswer, need, ok, refuse}
 use Rattle.expr.specs.Form.{decode, encodeCore}
 use Rattle.expr.specs.Operations.{intoRoom}
 use Rattle.expr.specs.Terms.{Core, Expr}
 use Rattle.desugar.specs.Desugar.{desugar, desugarBytes, drawnOf, maxAllowance, workFor}
-use Rattle.desugar.specs.Meter.{Meter, left, spent}
+use Rattle.desugar.specs.Meter.{Meter, drawn, left, spent}
 use Rattle.desugar.specs.Negation.{isTest}
-use Rattle.desugar.proofs.Limit.{Costs, desugar-costs, gives, stops}
+use Rattle.desugar.proofs.Limit.{Costs, Limit, desugar-costs, gives, limit, overdrawn, stops}
 use Rattle.netkat.specs.Check.{RulesHold, check, checkBytes, firstFailure, testSort}
 use Rattle.netkat.specs.Points.{walk}
-use Rattle.netkat.proofs.Agree.{Seen, agree, refused, seen}
-use Rattle.netkat.proofs.AtPoint.{then-ok}
-use Rattle.netkat.proofs.CheckWalk.{check-is-walk, checkWalk}
+use Rattle.netkat.proofs.Agree.{Seen, refused, seen}
+use Rattle.netkat.proofs.AtPoint.{seen-answer, seen-at, then-ok}
 use Rattle.netkat.proofs.Rules.{behind-rule, check-succeeds, none-fails}
 
 -- the form is good, and rules 11 to 23 hold at every record
@@ -47,13 +45,13 @@ check-bytes bs = (
 abbrev pub Allowed : ℕ → Type 0
 Allowed n = (1 ≤ n) × (n ≤ maxAllowance)
 
--- on a term of good form and rules, whose core without limit is c with t drawn: success, or a refusal for its cause
-pub data Outcome (c : Core) (t n work room : ℕ) : Answer (List ℕ × ℕ) → Type 0 where
-  done : Allowed n → workFor n ≤ work → t ≤ n → length (encodeCore c) ≤ room → Outcome c t n work room (ok (encodeCore c, t))
-  allowance : ¬ Allowed n → Outcome c t n work room (refuse 9 0)
-  memory : work < workFor n → Outcome c t n work room (refuse 10 0)
-  beyond : (p : ℕ) → n < t → Outcome c t n work room (refuse 24 p)
-  long : room < length (encodeCore c) → Outcome c t n work room (refuse 26 0)
+-- on a term of good form and rules, whose core without limit is c with the draws ds: success, or a refusal for its cause
+pub data Outcome (c : Core) (ds : List (ℕ × ℕ)) (n work room : ℕ) : Answer (List ℕ × ℕ) → Type 0 where
+  done : Allowed n → workFor n ≤ work → drawn ds ≤ n → length (encodeCore c) ≤ room → Outcome c ds n work room (ok (encodeCore c, drawn ds))
+  allowance : ¬ Allowed n → Outcome c ds n work room (refuse 9 0)
+  memory : work < workFor n → Outcome c ds n work room (refuse 10 0)
+  beyond : n < drawn ds → Outcome c ds n work room (refuse 24 (overdrawn n ds))
+  long : room < length (encodeCore c) → Outcome c ds n work room (refuse 26 0)
 
 -- a rule that holds or does not
 by-need : {A : Type 0} (P : Answer A → Type 0) (b : Bool) (r at : ℕ) (f : Unit {0} → Answer A)
@@ -87,56 +85,56 @@ by-limits P n work x nine ten other =
 abbrev rest : Expr → ℕ → ℕ → Answer (List ℕ × ℕ)
 rest e n room = andThen (desugar [] e 0 (left n)) λ r. andThen (intoRoom (encodeCore (r .0)) room) λ out. ok (out, drawnOf n (r .1))
 
--- the core without limit and what it draws
-abbrev pub Unlimited : Expr → Core → ℕ → Type 0
-Unlimited e c t = desugar [] e 0 (spent 0) ≡ ok (c, spent t)
+-- the core without limit and the draws made for it
+abbrev pub Unlimited : Expr → Core → List (ℕ × ℕ) → Type 0
+Unlimited e c ds = desugar [] e 0 (spent []) ≡ ok (c, spent ds)
 
 pub record Desugars (bs : List ℕ) (e : Expr) : Type 0 where
   pub core : Core
-  pub drawn : ℕ
-  pub unlimited : Unlimited e core drawn
-  pub outcome : (n work room : ℕ) → Outcome core drawn n work room (desugarBytes bs n work room)
+  pub draws : List (ℕ × ℕ)
+  pub unlimited : Unlimited e core draws
+  pub outcome : (n work room : ℕ) → Outcome core draws n work room (desugarBytes bs n work room)
 
 -- a term of good form and rules has a core without limit, and Desugar's answer is one of the five
 pub desugar-bytes : (bs : List ℕ) (e : Expr) → Good bs e → Desugars bs e
-desugar-bytes bs e good = go (desugar-costs [] e 0) (agree [] e 0 0) (check-is-walk [] e 0 ∙ check-succeeds [] e 0 .1 (good .rules))
+desugar-bytes bs e good = go (desugar-costs [] e 0) (seen-at [] [] e 0 refl) (check-succeeds [] e 0 .1 (good .rules))
   where
-    go : Costs (desugar [] e 0) → Seen isTest (desugar [] e 0 (spent 0)) (checkWalk [] e 0) → checkWalk [] e 0 ≡ ok (testSort [] e) → Desugars bs e
-    go (stops r p N s g l) w k = absurd (never (desugar [] e 0 (spent 0)) (checkWalk [] e 0) w (s 0) k)
+    go : Costs (desugar [] e 0) → Seen isTest (desugar [] e 0 (spent [])) (check [] e 0) → check [] e 0 ≡ ok (testSort [] e) → Desugars bs e
+    go (stops r p ds s g l) w k = absurd (never (desugar [] e 0 (spent [])) (check [] e 0) w (s []) k)
       where
         never : (x : Answer (Core × Meter)) (y : Answer Bool) → Seen isTest x y → x ≡ refuse r p → y ≡ ok (testSort [] e) → ⊥
         never x y (seen a k) i j = let z : _≡_ {A = ℕ} 0 1 = cc in absurd (omega arith)
         never x y (refused q m) i j = let z : _≡_ {A = ℕ} 0 1 = cc in absurd (omega arith)
-    go (gives c t s g l) w k =
+    go (gives c ds s g l) w k =
         record {
           core = c;
-          drawn = t;
-          unlimited = s 0 ∙ ap (λ m. ok (c, spent m)) (zero-add t);
-          outcome = λ n work room. by-limits (Outcome c t n work room) n work _ (λ h. allowance h) (λ h. memory h) (λ a m.
-              rw (good .form) (last n work room a m (decLt n t)));
+          draws = ds;
+          unlimited = s [];
+          outcome = λ n work room. by-limits (Outcome c ds n work room) n work _ (λ h. allowance h) (λ h. memory h) (λ a m.
+              rw (good .form) (last n work room a m (decLt n (drawn ds))));
         }
       where
-        last : (n work room : ℕ) → Allowed n → workFor n ≤ work → Dec (n < t) → Outcome c t n work room (rest e n room)
-        last n work room a m (yes q) = rw (l n q .1) (beyond (l n q .0) q)
+        last : (n work room : ℕ) → Allowed n → workFor n ≤ work → Dec (n < drawn ds) → Outcome c ds n work room (rest e n room)
+        last n work room a m (yes q) = rw (l n q) (beyond q)
         last n work room a m (no q) =
-            let drawn : n - (n - t) ≡ t = omega arith in
+            let total : n - (n - drawn ds) ≡ drawn ds = omega arith in
             rw (g n (omega arith))
-            (by-room (Outcome c t n work room) (encodeCore c) room (λ out. ok (out, n - (n - t)))
+            (by-room (Outcome c ds n work room) (encodeCore c) room (λ out. ok (out, n - (n - drawn ds)))
             (λ h. long h)
-            (λ h. rw drawn (done a m (omega arith) h)))
+            (λ h. rw total (done a m (omega arith) h)))
 
 -- ## Where Desugar succeeds
 
 pair-of : {a b : List ℕ} {x y : ℕ} → _≡_ {A = Answer (List ℕ × ℕ)} (ok (a, x)) (ok (b, y)) → (a ≡ b) × (x ≡ y)
 pair-of {a} {b} {x} {y} e = let p : _≡_ {A = List ℕ × ℕ} (a, x) (b, y) = cc in (ap (λ r. r .0) p, ap (λ r. r .1) p)
 
-only-done : (c : Core) (t n work room : ℕ) {y : Answer (List ℕ × ℕ)} (out : List ℕ) (m : ℕ)
-    → Outcome c t n work room y → y ≡ ok (out, m) → (out ≡ encodeCore c) × (m ≡ t)
-only-done c t n work room out m (done _ _ p q) h = (sym (pair-of h .0), sym (pair-of h .1))
-only-done c t n work room out m (allowance p) h = let z : _≡_ {A = ℕ} 0 1 = cc in absurd (omega arith)
-only-done c t n work room out m (memory p) h = let z : _≡_ {A = ℕ} 0 1 = cc in absurd (omega arith)
-only-done c t n work room out m (beyond p q) h = let z : _≡_ {A = ℕ} 0 1 = cc in absurd (omega arith)
-only-done c t n work room out m (long p) h = let z : _≡_ {A = ℕ} 0 1 = cc in absurd (omega arith)
+only-done : (c : Core) (ds : List (ℕ × ℕ)) (n work room : ℕ) {y : Answer (List ℕ × ℕ)} (out : List ℕ) (m : ℕ)
+    → Outcome c ds n work room y → y ≡ ok (out, m) → (out ≡ encodeCore c) × (m ≡ drawn ds)
+only-done c ds n work room out m (done _ _ p q) h = (sym (pair-of h .0), sym (pair-of h .1))
+only-done c ds n work room out m (allowance p) h = let z : _≡_ {A = ℕ} 0 1 = cc in absurd (omega arith)
+only-done c ds n work room out m (memory p) h = let z : _≡_ {A = ℕ} 0 1 = cc in absurd (omega arith)
+only-done c ds n work room out m (beyond p) h = let z : _≡_ {A = ℕ} 0 1 = cc in absurd (omega arith)
+only-done c ds n work room out m (long p) h = let z : _≡_ {A = ℕ} 0 1 = cc in absurd (omega arith)
 
 -- with a limit or without, a success means that the rules hold at every record
 rules-of : (e : Expr) (n : ℕ) (r : Core × Meter) → desugar [] e 0 (left n) ≡ ok r → RulesHold (walk [] e 0)
@@ -145,28 +143,29 @@ rules-of e n r h = go (desugar-costs [] e 0)
     apart : {q p : ℕ} → desugar [] e 0 (left n) ≡ refuse q p → ⊥
     apart k = let z : _≡_ {A = ℕ} 0 1 = cc in absurd (omega arith)
 
-    sees : {x : Answer (Core × Meter)} {y : Answer Bool} {c : Core} {t : ℕ} → Seen isTest x y → x ≡ ok (c, spent t) → (s : Bool) × (y ≡ ok s)
-    sees (seen a k) i = (isTest a, refl)
-    sees (refused q m) i = let z : _≡_ {A = ℕ} 0 1 = cc in absurd (omega arith)
+    sees : {x : Answer (Core × Meter)} {y : Answer Bool} {c : Core} {t : List (ℕ × ℕ)} → Seen isTest x y → x ≡ ok (c, spent t) → y ≡ check [] e 0
+        → RulesHold (walk [] e 0)
+    sees (seen a k) i j = none-fails (walk [] e 0) .0 (behind-rule (firstFailure (walk [] e 0)) (sym j) .0)
+    sees (refused q m) i j = let z : _≡_ {A = ℕ} 0 1 = cc in absurd (omega arith)
 
     go : Costs (desugar [] e 0) → RulesHold (walk [] e 0)
-    go (gives a N s g l) =
-        let k : (s : Bool) × (checkWalk [] e 0 ≡ ok s) = sees (agree [] e 0 0) (s 0) in
-        none-fails (walk [] e 0) .0 (behind-rule (firstFailure (walk [] e 0)) (sym (check-is-walk [] e 0) ∙ k .1) .0)
-    go (stops q p N s g l) = absurd (pick (decLt n N))
+    go (gives a ds s g l) = sees (seen-at [] [] e 0 refl) (s []) refl
+    go (stops q p ds s g l) = absurd (pick (decLt n (drawn ds)))
       where
-        pick : Dec (n < N) → ⊥
-        pick (yes d) = apart (l n d .1)
+        pick : Dec (n < drawn ds) → ⊥
+        pick (yes d) = apart (l n d)
         pick (no d) = apart (g n (omega arith))
 
 pub record Desugared (bs : List ℕ) (out : List ℕ) (m : ℕ) : Type 0 where
   pub term : Expr
   pub good : Good bs term
   pub core : Core
-  pub unlimited : Unlimited term core m
+  pub draws : List (ℕ × ℕ)
+  pub unlimited : Unlimited term core draws
   pub bytes : out ≡ encodeCore core
+  pub total : m ≡ drawn draws
 
--- the term is of good form and rules, and the answer is the core made without limit and what that draws
+-- the term is of good form and rules, and the answer is the core made without limit and the sum of its draws
 pub desugared-bytes : (bs : List ℕ) (n work room : ℕ) (out : List ℕ) (m : ℕ) → desugarBytes bs n work room ≡ ok (out, m) → Desugared bs out m
 desugared-bytes bs n work room out m h =
     let h₁ = then-ok (need (leb 1 n && leb n maxAllowance) 9 0) _ (out, m) h in
@@ -176,16 +175,50 @@ desugared-bytes bs n work room out m h =
   where
     same : (e : Expr) (g : Good bs e) (d : Desugars bs e) → Desugared bs out m
     same e g d =
-        let k : (out ≡ encodeCore (d .core)) × (m ≡ d .drawn) = only-done (d .core) (d .drawn) n work room out m (d .outcome n work room) h in
+        let k : (out ≡ encodeCore (d .core)) × (m ≡ drawn (d .draws)) = only-done (d .core) (d .draws) n work room out m (d .outcome n work room) h in
         record {
           term = e;
           good = g;
           core = d .core;
-          unlimited = d .unlimited ∙ ap (λ (t : ℕ). ok (d .core, spent t)) (sym (k .1));
+          draws = d .draws;
+          unlimited = d .unlimited;
           bytes = k .0;
+          total = k .1;
         }
 
     finish : (e : Expr) → decode bs ≡ ok e → (r : Core × Meter) → desugar [] e 0 (left n) ≡ ok r → Desugared bs out m
     finish e f r d =
         let g : Good bs e = record { form = f; rules = rules-of e n r d } in
         same e g (desugar-bytes bs e g)
+
+-- ## Where Check refuses
+
+-- where Check refuses by r at p: 9 or 10 for its cause, the same refusal, or 24 where the allowance is spent before the rule that fails
+pub data Refusal (bs : List ℕ) (r p n work : ℕ) : Answer (List ℕ × ℕ) → Type 0 where
+  allowance : ¬ Allowed n → Refusal bs r p n work (refuse 9 0)
+  memory : work < workFor n → Refusal bs r p n work (refuse 10 0)
+  same : Refusal bs r p n work (refuse r p)
+  beyond : (e : Expr) (ds : List (ℕ × ℕ)) → decode bs ≡ ok e → Limit [] e 0 ds → n < drawn ds → Refusal bs r p n work (refuse 24 (overdrawn n ds))
+
+-- a refusal is the same refusal whatever is seen of a result
+unmapped : {A B : Type 0} (f : A → B) (x : Answer A) {r p : ℕ} → mapAnswer f x ≡ refuse r p → x ≡ refuse r p
+unmapped f (ok a) h = let z : _≡_ {A = ℕ} 0 1 = cc in absurd (omega arith)
+unmapped f (refuse q m) {r} {p} h = let a : q ≡ r = cc in let b : m ≡ p = cc in λ i. refuse (a i) (b i)
+
+-- Desugar refuses what Check refuses
+pub refused-bytes : (bs : List ℕ) (r p : ℕ) → checkBytes bs ≡ refuse r p → (n work room : ℕ) → Refusal bs r p n work (desugarBytes bs n work room)
+refused-bytes bs r p h n work room =
+    by-limits (Refusal bs r p n work) n work _ (λ a. allowance a) (λ m. memory m) (λ a m. read (decode bs) refl h)
+  where
+    walked : (e : Expr) → decode bs ≡ ok e → check [] e 0 ≡ refuse r p → (ds : List (ℕ × ℕ)) → Limit [] e 0 ds → Dec (n < drawn ds)
+        → Refusal bs r p n work (rest e n room)
+    walked e f k ds l (yes q) = rw (l .short n q) (beyond e ds f l q)
+    walked e f k ds l (no q) =
+        let without = seen-answer (seen-at [] [] e 0 refl) ∙ k in
+        let within : mapAnswer (λ r. r .0) (desugar [] e 0 (left n)) ≡ refuse r p = l .enough n [] (omega arith) ∙ unmapped isTest _ without in
+        rw (unmapped (λ r. r .0) (desugar [] e 0 (left n)) within) same
+
+    read : (x : Answer Expr) → decode bs ≡ x → andThen x (λ e. check [] e 0) ≡ refuse r p
+        → Refusal bs r p n work (andThen x (λ e. rest e n room))
+    read (ok e) f k = walked e f k (limit [] e 0 .0) (limit [] e 0 .1) (decLt n (drawn (limit [] e 0 .0)))
+    read (refuse q m) f k = let a : q ≡ r = cc in let b : m ≡ p = cc in rw (a, b) same

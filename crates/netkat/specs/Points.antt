@@ -4,8 +4,7 @@ use Prim.Native.Nat.{ℕ, _+_}
 use Rattle.expr.specs.{Answers.Answer, Answers.ok, Answers.andThen, Answers.mapAnswer, Terms.Core, Terms.Expr, Terms.Plain, Terms.Unary, Terms.Binary, Terms.TestNegation, Terms.IfThenElse, Terms.Let, Terms.LetBitRange, Terms.Var, Terms.Ranged, Terms.records}
 use Rattle.desugar.specs.{Bindings.Env, Bindings.variable, Bindings.range, Meter.spent, Desugar.desugar, Packets.Relation, Packets.Others, Packets.means, Packets.OneStep}
 
--- "Around it stand the Lets and LetBitRanges in whose body it lies; a Let isn't around its own definition.": innermost first, a
--- variable with its definition and the definition's place. What stands behind a binder in the list is around its definition
+-- "Around it stand the Lets and LetBitRanges in whose body it lies": innermost first, a variable with its definition and its place
 abbrev pub Scope : Type 0
 Scope = Env (Expr × ℕ)
 
@@ -44,13 +43,13 @@ abbrev pub cores : Scope → Answer (Env Core)
 cores [] = ok []
 cores (variable x d ∷ sc) =
     andThen (cores sc) λ env.
-    andThen (desugar env (d .0) (d .1) (spent 0)) λ r.
+    andThen (desugar env (d .0) (d .1) (spent [])) λ r.
     ok (variable x (r .0) ∷ env)
 cores (range x s e ∷ sc) = andThen (cores sc) λ env. ok (range x s e ∷ env)
 
 -- "Desugaring a subterm at a point, without limit, is the walking rules on that subterm"
 abbrev pub desugarAt : Scope → Expr → ℕ → Answer Core
-desugarAt sc e at = andThen (cores sc) λ env. mapAnswer (λ r. r .0) (desugar env e at (spent 0))
+desugarAt sc e at = andThen (cores sc) λ env. mapAnswer (λ r. r .0) (desugar env e at (spent []))
 
 -- "The written meaning at a point is the relation above under the bindings around it."
 abbrev pub meanings : Others → Scope → Env Relation
