@@ -12,7 +12,7 @@ use Rattle.literals.specs.Bits.{Bits, bit, valueOf}
 use Rattle.literals.proofs.Bits.{value-below}
 use Rattle.literals.proofs.Logic.{and-iff, beq-is, eqb-is, or-iff}
 use Rattle.expr.specs.Terms.{Core, Intersect, One, Test, leaf}
-use Rattle.desugar.specs.Leaves.{between, betweenCase, bound, chain, highFirst, partings, testChain}
+use Rattle.desugar.specs.Leaves.{between, betweenCase, bound, chain, highFirst, differences, testChain}
 use Rattle.desugar.specs.Packets.{Packet, fieldBits, fieldValue}
 use Rattle.desugar.proofs.Ranges.{agrees, agrees-value, all-append, all-high-first, along, any-append, anyPass, chain-all, chain-any, length-fields, test-chain-value}
 use Rattle.desugar.proofs.Tests.{passes}
@@ -49,22 +49,22 @@ any-cond : (x : Bool) (c : Core) (p : Packet) → anyPass (cond x (c ∷ []) [])
 any-cond true c p = or-false (passes c p)
 any-cond false c p = refl
 
-any-partings : (d : Bool) (s : ℕ) (a : Bits) (p : Packet) → anyPass (partings d s a) p ≡ parts d s a p
-any-partings d s [] p = refl
-any-partings d s (b ∷ a) p =
+any-differences : (d : Bool) (s : ℕ) (a : Bits) (p : Packet) → anyPass (differences d s a) p ≡ parts d s a p
+any-differences d s [] p = refl
+any-differences d s (b ∷ a) p =
     let own : List Core = highFirst (suc s) a ++ leaf (Test s (not d)) ∷ [] in
     let e : passes (chain Intersect One own) p ≡ (agrees (suc s) a p && Bool·beq (p s) (not d)) =
     chain-all own p ∙ all-append (highFirst (suc s) a) (leaf (Test s (not d)) ∷ []) p
     ∙ ap₂ _&&_ (all-high-first (suc s) a p) (and-true (Bool·beq (p s) (not d))) in
-    any-append (partings d (suc s) a) (cond (Bool·beq b d) (chain Intersect One own ∷ []) []) p
-    ∙ ap₂ _||_ (any-partings d (suc s) a p) (any-cond (Bool·beq b d) (chain Intersect One own) p ∙ ap (λ x. Bool·beq b d && x) e)
+    any-append (differences d (suc s) a) (cond (Bool·beq b d) (chain Intersect One own ∷ []) []) p
+    ∙ ap₂ _||_ (any-differences d (suc s) a p) (any-cond (Bool·beq b d) (chain Intersect One own) p ∙ ap (λ x. Bool·beq b d && x) e)
 
 passes-bound : (d : Bool) (s : ℕ) (a : Bits) (p : Packet) → passes (bound d s a) p ≡ (parts d s a p || agrees s a p)
 passes-bound d s a p =
     let exact : Core = chain Intersect One (highFirst s a) in
-    chain-any (partings d s a ++ exact ∷ []) p
-    ∙ any-append (partings d s a) (exact ∷ []) p
-    ∙ ap₂ _||_ (any-partings d s a p) (or-false (passes exact p) ∙ chain-all (highFirst s a) p ∙ all-high-first s a p)
+    chain-any (differences d s a ++ exact ∷ []) p
+    ∙ any-append (differences d s a) (exact ∷ []) p
+    ∙ ap₂ _||_ (any-differences d s a p) (or-false (passes exact p) ∙ chain-all (highFirst s a) p ∙ all-high-first s a p)
 
 sum-iff : {P Q P′ Q′ : Type 0} → P ↔ P′ → Q ↔ Q′ → (P ⊎ Q) ↔ (P′ ⊎ Q′)
 sum-iff {P} {Q} {P′} {Q′} f g = (there, back)

@@ -151,9 +151,9 @@ same-left a b e = cc
 apart : {r at : ℕ} {x : Core × Meter} → _≡_ {A = Answer (Core × Meter)} (refuse r at) (ok x) → ⊥
 apart e = let z : _≡_ {A = ℕ} 0 1 = cc in absurd (omega arith)
 
--- ds are the draws of the walk in order, up to its result or to the rule that fails.
--- With an allowance of at least their sum the answer is the one without limit, and the sum is taken from the allowance; with less it
--- is 24, at the place of the first draw beyond it
+-- With an allowance of at least the sum of ds the answer is the one without limit, and the sum is taken from the allowance; with less it
+-- is 24, at the place of the first draw that goes beyond it. Where the walk has a result, ds are its draws in walking order (total);
+-- where a rule fails, ds fix what allowances meet the rule and where the others are refused
 pub record Limit (env : Env Core) (e : Expr) (at : ℕ) (ds : List (ℕ × ℕ)) : Type 0 where
   pub total : (k t : List (ℕ × ℕ)) (c : Core) → desugar env e at (spent k) ≡ ok (c, spent t) → t ≡ k ++ ds
   pub taken : (n m : ℕ) (c : Core) → desugar env e at (left n) ≡ ok (c, left m) → n ≡ m + drawn ds

@@ -76,3 +76,16 @@ starred =
 
 pub starred-probes : map (λ p. asked (p .0)) starred ≡ map (λ p. ok (p .1)) starred
 starred-probes = refl
+
+-- What no starred probe shows: a Sequence drops a One on either side, and a Difference's right side is desugared again
+abbrev pub further : List Probe
+further =
+    gives (Binary Sequence (Plain One) (Plain (Test 0 true))) (test 0 true) 2
+    ∷ gives (Binary Sequence (Plain (Test 0 true)) (Plain One)) (test 0 true) 2
+    ∷ gives (Binary Sequence (Plain (Test 0 true)) (Plain Zero)) (two Sequence (test 0 true) (leaf Zero)) 3
+    ∷ gives (TestNegation (Binary Difference (Plain (Test 0 true)) (IfThenElse (Plain (Test 0 true)) (Plain One) (Plain Zero))))
+    (two Union (test 0 false) (two Union (test 0 true) (two Sequence (test 0 false) (leaf Zero)))) 16
+    ∷ []
+
+pub further-probes : map (λ p. asked (p .0)) further ≡ map (λ p. ok (p .1)) further
+further-probes = refl

@@ -60,22 +60,22 @@ size-of-join LtlUntil a b = omega arith
 
 -- an operator draws 1 for the node that it makes; a Sequence that drops a One gives its other operand, and draws nothing
 pub data Joined (o : Op2) (a b : Core) : Core → ℕ → Type 0 where
-  node : Joined o a b (two o a b) 1
+  node : (o ≡ Sequence → (isOne a ≡ false) × (isOne b ≡ false)) → Joined o a b (two o a b) 1
   left-dropped : o ≡ Sequence → isOne a ≡ true → Joined o a b b 0
   right-dropped : o ≡ Sequence → isOne a ≡ false → isOne b ≡ true → Joined o a b a 0
 
 pub join-draws : (o : Op2) (a b : Core) → Joined o a b (join o a b) (joinDraw o a b)
-join-draws Union a b = node
-join-draws Intersect a b = node
-join-draws Xor a b = node
-join-draws Difference a b = node
+join-draws Union a b = node (λ e. let z : _≡_ {A = ℕ} 0 1 = cc in absurd (omega arith))
+join-draws Intersect a b = node (λ e. let z : _≡_ {A = ℕ} 0 1 = cc in absurd (omega arith))
+join-draws Xor a b = node (λ e. let z : _≡_ {A = ℕ} 0 1 = cc in absurd (omega arith))
+join-draws Difference a b = node (λ e. let z : _≡_ {A = ℕ} 0 1 = cc in absurd (omega arith))
 join-draws Sequence a b = go (isOne a) (isOne b) refl refl
   where
     go : (x y : Bool) → isOne a ≡ x → isOne b ≡ y → Joined Sequence a b (cond x b (cond y a (two Sequence a b))) (cond (x || y) 0 1)
     go true y p q = left-dropped refl p
     go false true p q = right-dropped refl p q
-    go false false p q = node
-join-draws LtlUntil a b = node
+    go false false p q = node (λ e. (p, q))
+join-draws LtlUntil a b = node (λ e. let z : _≡_ {A = ℕ} 0 1 = cc in absurd (omega arith))
 
 abbrev pub Fits : Core → ℕ → Type 0
 Fits c d = size c ≤ d

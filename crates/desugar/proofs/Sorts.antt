@@ -13,7 +13,7 @@ use Rattle.literals.proofs.Bits.{length-pad}
 use Rattle.literals.proofs.Logic.{and-both, and-left, and-right, eqb-is, false-of}
 use Rattle.expr.specs.Operations.{isTestUse}
 use Rattle.expr.specs.Terms.{Alias, Assign, Assigns, Atom, Core, Difference, Direct, Dup, End, Intersect, LtlUntil, Matches, One, Op2, Sequence, Test, Tests, Top, Union, Use, Where, Xor, Zero, atomKind, leaf, one, op2Kind, testKind, two}
-use Rattle.desugar.specs.Leaves.{assignChain, between, betweenCase, bound, chain, eachBit, highFirst, maskedTests, partings, testChain, useCore}
+use Rattle.desugar.specs.Leaves.{assignChain, between, betweenCase, bound, chain, eachBit, highFirst, maskedTests, differences, testChain, useCore}
 use Rattle.desugar.specs.Negation.{again, isOne, isTest, join, negate}
 use Rattle.desugar.proofs.Decides.{LiteralSuits, RangeSuits}
 
@@ -99,11 +99,11 @@ all-cond : (x : Bool) (cs : List Core) → AllTests cs → AllTests (cond x cs [
 all-cond true cs h = h
 all-cond false cs h = tt
 
-all-partings : (d : Bool) (s : ℕ) (a : Bits) → AllTests (partings d s a)
-all-partings d s [] = tt
-all-partings d s (b ∷ a) =
+all-differences : (d : Bool) (s : ℕ) (a : Bits) → AllTests (differences d s a)
+all-differences d s [] = tt
+all-differences d s (b ∷ a) =
     let own : List Core = highFirst (suc s) a ++ leaf (Test s (not d)) ∷ [] in
-    all-append (partings d (suc s) a) _ (all-partings d (suc s) a)
+    all-append (differences d (suc s) a) _ (all-differences d (suc s) a)
     (all-cond (Bool·beq b d) (chain Intersect One own ∷ [])
     (test-of-chain Intersect One own refl refl (all-append (highFirst (suc s) a) _ (all-high-first (suc s) a) (refl, tt)), tt))
 
@@ -115,8 +115,8 @@ test-of-masked s a m = test-of-chain Intersect One (maskedTests s a m) refl refl
 
 pub test-of-bound : (d : Bool) (s : ℕ) (a : Bits) → isTest (bound d s a) ≡ true
 test-of-bound d s a =
-    test-of-chain Union Zero (partings d s a ++ _) refl refl
-    (all-append (partings d s a) _ (all-partings d s a) (test-of-chain Intersect One (highFirst s a) refl refl (all-high-first s a), tt))
+    test-of-chain Union Zero (differences d s a ++ _) refl refl
+    (all-append (differences d s a) _ (all-differences d s a) (test-of-chain Intersect One (highFirst s a) refl refl (all-high-first s a), tt))
 
 test-of-between-case : (x low high : Bool) (s : ℕ) (a b : Bits) → isTest (betweenCase x low high s a b) ≡ true
 test-of-between-case true low high s a b = test-of-test-chain s a

@@ -19,7 +19,6 @@ use Rattle.desugar.specs.Packets.{OneStep, Others, Packet, Relation, Rou
 use Rattle.desugar.specs.Rules.{boundVariable, knownRange, rangeRule}
 use Rattle.desugar.proofs.Decides.{Decides, fails, holds, need-decides, range-decides}
 use Rattle.desugar.proofs.Patterns.{use-means}
-use Rattle.desugar.proofs.Sorts.{test-of-negate}
 use Rattle.desugar.proofs.Tests.{_≈_, negate-means, passes, test-filters}
 
 -- ## Results of steps that may draw
@@ -117,51 +116,48 @@ module _ (others : Others) where
 
   -- ## The walk
 
-  -- bindings that agree: each variable's core relates the packets that its meaning relates, and the aliases are the same
-  pub data EnvMeans : Env Core → Env Relation → Type 1 where
-    nothing : EnvMeans [] []
-    variables : {x : Name} {c : Core} {R : Relation} {cs : Env Core} {Rs : Env Relation}
-        → coreMeans others c ≈ R → EnvMeans cs Rs → EnvMeans (variable x c ∷ cs) (variable x R ∷ Rs)
-    ranges : {x : Name} {s e : ℕ} {cs : Env Core} {Rs : Env Relation}
-        → EnvMeans cs Rs → EnvMeans (range x s e ∷ cs) (range x s e ∷ Rs)
+  -- bindings that agree: each variable's core relates the packets that its meaning relates, if its definition has only one-step kinds,
+  -- and the aliases are the same
+  pub data EnvMeans : Env Core → Env Relation → Env (Type 0) → Type 1 where
+    nothing : EnvMeans [] [] []
+    variables : {x : Name} {c : Core} {R : Relation} {P : Type 0} {cs : Env Core} {Rs : Env Relation} {Ps : Env (Type 0)}
+        → (P → coreMeans others c ≈ R) → EnvMeans cs Rs Ps → EnvMeans (variable x c ∷ cs) (variable x R ∷ Rs) (variable x P ∷ Ps)
+    ranges : {x : Name} {s e : ℕ} {cs : Env Core} {Rs : Env Relation} {Ps : Env (Type 0)}
+        → EnvMeans cs Rs Ps → EnvMeans (range x s e ∷ cs) (range x s e ∷ Rs) (range x s e ∷ Ps)
 
-  alias-same : (x : Name) {cs : Env Core} {Rs : Env Relation} → EnvMeans cs Rs → lookupAlias cs x ≡ lookupAlias Rs x
+  alias-same : (x : Name) {cs : Env Core} {Rs : Env Relation} {Ps : Env (Type 0)} → EnvMeans cs Rs Ps → lookupAlias cs x ≡ lookupAlias Rs x
   alias-same x nothing = refl
   alias-same x (variables h hs) = alias-same x hs
   alias-same x (ranges {x = y} {s = s} {e = e} hs) = ap (cond (eqb x y) (some (s, e))) (alias-same x hs)
 
-  abbrev BothMean : Option Core → Option Relation → Type 0
-  BothMean (some c) (some R) = coreMeans others c ≈ R
-  BothMean (some c) none = ⊥
-  BothMean none (some R) = ⊥
-  BothMean none none = Unit {0}
+  data Looked : Option Core → Option Relation → Option (Type 0) → Type 1 where
+    found : {c : Core} {R : Relation} {P : Type 0} → (P → coreMeans others c ≈ R) → Looked (some c) (some R) (some P)
+    missing : Looked none none none
 
-  both-cond : (b : Bool) (c : Core) (R : Relation) (o : Option Core) (o′ : Option Relation)
-      → coreMeans others c ≈ R → BothMean o o′ → BothMean (cond b (some c) o) (cond b (some R) o′)
-  both-cond true c R o o′ h k = h
-  both-cond false c R o o′ h k = k
+  nearest : (b : Bool) (c : Core) (R : Relation) (P : Type 0) {o : Option Core} {o′ : Option Relation} {o″ : Option (Type 0)}
+      → (P → coreMeans others c ≈ R) → Looked o o′ o″ → Looked (cond b (some c) o) (cond b (some R) o′) (cond b (some P) o″)
+  nearest true c R P h k = found h
+  nearest false c R P h k = k
 
-  variable-same : (x : Name) {cs : Env Core} {Rs : Env Relation} → EnvMeans cs Rs → BothMean (lookupVariable cs x) (lookupVariable Rs x)
-  variable-same x nothing = tt
-  variable-same x (variables {x = y} {c = c} {R = R} {cs = cs} {Rs = Rs} h hs) =
-      both-cond (eqb x y) c R (lookupVariable cs x) (lookupVariable Rs x) h (variable-same x hs)
+  variable-same : (x : Name) {cs : Env Core} {Rs : Env Relation} {Ps : Env (Type 0)} → EnvMeans cs Rs Ps
+      → Looked (lookupVariable cs x) (lookupVariable Rs x) (lookupVariable Ps x)
+  variable-same x nothing = missing
+  variable-same x (variables {x = y} {c = c} {R = R} {P = P} h hs) = nearest (eqb x y) c R P h (variable-same x hs)
   variable-same x (ranges hs) = variable-same x hs
 
   range-gives : (w : Where) (u : Use) (o : Option (ℕ × ℕ)) (at : ℕ)
-      → Gives (λ c. coreMeans others c ≈ rangeMeans others u o)
+      → Gives (λ c. Unit {0} → coreMeans others c ≈ rangeMeans others u o)
       (lift (knownRange o at) >>= (λ r. lift (rangeRule w u r at) >>= λ _. drawing (size (useCore u (r .0) (r .1 - r .0))) at (useCore u (r .0) (r .1 - r .0))))
   range-gives w u (some r) at =
-      rule-gives (λ c. coreMeans others c ≈ useMeans others u (r .0) (r .1 - r .0)) _ (range-decides w u r at) (λ h.
-      draw-gives (λ c. coreMeans others c ≈ useMeans others u (r .0) (r .1 - r .0)) _ at (useCore u (r .0) (r .1 - r .0)) (use-means others w u r h))
+      rule-gives (λ c. Unit {0} → coreMeans others c ≈ useMeans others u (r .0) (r .1 - r .0)) _ (range-decides w u r at) (λ h.
+      draw-gives (λ c. Unit {0} → coreMeans others c ≈ useMeans others u (r .0) (r .1 - r .0)) _ at (useCore u (r .0) (r .1 - r .0)) (λ _. use-means others w u r h))
   range-gives w u none at = λ k. tt
 
-  variable-gives : (o : Option Core) (R : Option Relation) (r : Option (ℕ × ℕ)) (at : ℕ) → BothMean o R
-      → Gives (λ c. coreMeans others c ≈ Option·getD R (λ p q. ⊥)) (lift (boundVariable o r at) >>= (λ c. drawing (size c) at c))
-  variable-gives (some c) (some R) r at h = draw-gives (λ c. coreMeans others c ≈ R) (size c) at c h
-  variable-gives (some c) none r at h = absurd h
-  variable-gives none (some R) r at h = absurd h
-  variable-gives none none (some r) at h = λ k. tt
-  variable-gives none none none at h = λ k. tt
+  variable-gives : {o : Option Core} {R : Option Relation} {P : Option (Type 0)} (r : Option (ℕ × ℕ)) (at : ℕ) → Looked o R P
+      → Gives (λ c. Option·getD P (Unit {0}) → coreMeans others c ≈ Option·getD R (λ p q. ⊥)) (lift (boundVariable o r at) >>= (λ c. drawing (size c) at c))
+  variable-gives r at (found {c} {R} {P} h) = draw-gives (λ c. P → coreMeans others c ≈ R) (size c) at c h
+  variable-gives (some r) at missing = λ k. tt
+  variable-gives none at missing = λ k. tt
 
   -- a desugared condition, its negation and two desugared branches
   if-means : (c t e : Core) (C T E : Relation) → isTest c ≡ true → coreMeans others c ≈ C → coreMeans others t ≈ T → coreMeans others e ≈ E
@@ -169,7 +165,7 @@ module _ (others : Others) where
   if-means c t e C T E h f g k p q = (there, back)
     where
       n : (r : Packet) → coreMeans others (negate c) p r ↔ ((p ≡ r) × ¬ coreMeans others c p p)
-      n r = negate-means others c h (test-of-negate c h) p r
+      n r = negate-means others c h p r
 
       there : coreMeans others (two Union (two Sequence c t) (two Sequence (negate c) e)) p q → (C p p × T p q) ⊎ (¬ C p p × E p q)
       there (inl m) =
@@ -188,33 +184,39 @@ module _ (others : Others) where
 
   not-means : (c : Core) (R : Relation) → isTest c ≡ true → coreMeans others c ≈ R → coreMeans others (negate c) ≈ (λ p q. (p ≡ q) × ¬ R p p)
   not-means c R h f p q =
-      Iff·trans (negate-means others c h (test-of-negate c h) p q) ((λ m. (m .0, λ r. m .1 (f p p .1 r))), (λ m. (m .0, λ r. m .1 (f p p .0 r))))
+      Iff·trans (negate-means others c h p q) ((λ m. (m .0, λ r. m .1 (f p p .1 r))), (λ m. (m .0, λ r. m .1 (f p p .0 r))))
 
-  pub desugar-means : {cs : Env Core} {Rs : Env Relation} → EnvMeans cs Rs → (e : Expr) → OneStep e → (at : ℕ) → Gives (λ c. coreMeans others c ≈ means others Rs e) (desugar cs e at)
-  desugar-means {cs} {Rs} hs (Plain a) h at = draw-gives (λ c. coreMeans others c ≈ means others Rs (Plain a)) 1 at (leaf a) (λ p q. Iff·rfl)
-  desugar-means {cs} {Rs} hs (Unary o e) h at =
-      bind-gives (λ c. coreMeans others c ≈ means others Rs e) (λ c. coreMeans others c ≈ means others Rs (Unary o e)) (desugar cs e (at + 1)) _ (desugar-means hs e (h .1) (at + 1)) (λ c f.
-      draw-gives (λ c. coreMeans others c ≈ means others Rs (Unary o e)) 1 at (one o c) (op1-same o (h .0) f))
-  desugar-means {cs} {Rs} hs (Binary o a b) h at =
-      bind-gives (λ c. coreMeans others c ≈ means others Rs a) (λ c. coreMeans others c ≈ means others Rs (Binary o a b)) (desugar cs a (at + 1)) _ (desugar-means hs a (h .1) (at + 1)) (λ c f.
-      bind-gives (λ d. coreMeans others d ≈ means others Rs b) (λ c. coreMeans others c ≈ means others Rs (Binary o a b)) (desugar cs b (at + 1 + records a)) _ (desugar-means hs b (h .2) (at + 1 + records a)) (λ d g.
-      draw-gives (λ c. coreMeans others c ≈ means others Rs (Binary o a b)) (joinDraw o c d) at (join o c d) (joined-means o (h .0) c d (means others Rs a) (means others Rs b) f g)))
-  desugar-means {cs} {Rs} hs (TestNegation e) h at =
-      bind-gives (λ c. coreMeans others c ≈ means others Rs e) (λ c. coreMeans others c ≈ means others Rs (TestNegation e)) (desugar cs e (at + 1)) _ (desugar-means hs e h (at + 1)) (λ c f.
-      rule-gives (λ c. coreMeans others c ≈ means others Rs (TestNegation e)) _ (need-decides (isTest c) 22 at) (λ t.
-      draw-gives (λ c. coreMeans others c ≈ means others Rs (TestNegation e)) (size (negate c)) at (negate c) (not-means c (means others Rs e) t f)))
-  desugar-means {cs} {Rs} hs (IfThenElse c t e) h at =
-      let Q : Core → Type 0 = λ d. coreMeans others d ≈ means others Rs (IfThenElse c t e) in
-      bind-gives (λ d. coreMeans others d ≈ means others Rs c) Q (desugar cs c (at + 1)) _ (desugar-means hs c (h .0) (at + 1)) (λ c′ f.
-      bind-gives (λ d. coreMeans others d ≈ means others Rs t) Q (desugar cs t (at + 1 + records c)) _ (desugar-means hs t (h .1) (at + 1 + records c)) (λ t′ g.
-      bind-gives (λ d. coreMeans others d ≈ means others Rs e) Q (desugar cs e (at + 1 + records c + records t)) _ (desugar-means hs e (h .2) (at + 1 + records c + records t)) (λ e′ k.
+  -- a core relates the packets that the written term relates, if the term has only one-step kinds
+  abbrev Kept : Env Relation → Env (Type 0) → Expr → Core → Type 0
+  Kept Rs Ps e c = OneStep Ps e → coreMeans others c ≈ means others Rs e
+
+  pub desugar-means : {cs : Env Core} {Rs : Env Relation} {Ps : Env (Type 0)} → EnvMeans cs Rs Ps → (e : Expr) (at : ℕ)
+      → Gives (λ c. OneStep Ps e → coreMeans others c ≈ means others Rs e) (desugar cs e at)
+  desugar-means {cs} {Rs} {Ps} hs (Plain a) at = draw-gives (Kept Rs Ps (Plain a)) 1 at (leaf a) (λ h p q. Iff·rfl)
+  desugar-means {cs} {Rs} {Ps} hs (Unary o e) at =
+      bind-gives (Kept Rs Ps e) (Kept Rs Ps (Unary o e)) (desugar cs e (at + 1)) _ (desugar-means hs e (at + 1)) (λ c f.
+      draw-gives (Kept Rs Ps (Unary o e)) 1 at (one o c) (λ h. op1-same o (h .0) (f (h .1))))
+  desugar-means {cs} {Rs} {Ps} hs (Binary o a b) at =
+      bind-gives (Kept Rs Ps a) (Kept Rs Ps (Binary o a b)) (desugar cs a (at + 1)) _ (desugar-means hs a (at + 1)) (λ c f.
+      bind-gives (Kept Rs Ps b) (Kept Rs Ps (Binary o a b)) (desugar cs b (at + 1 + records a)) _ (desugar-means hs b (at + 1 + records a)) (λ d g.
+      draw-gives (Kept Rs Ps (Binary o a b)) (joinDraw o c d) at (join o c d)
+      (λ h. joined-means o (h .0) c d (means others Rs a) (means others Rs b) (f (h .1)) (g (h .2)))))
+  desugar-means {cs} {Rs} {Ps} hs (TestNegation e) at =
+      bind-gives (Kept Rs Ps e) (Kept Rs Ps (TestNegation e)) (desugar cs e (at + 1)) _ (desugar-means hs e (at + 1)) (λ c f.
+      rule-gives (Kept Rs Ps (TestNegation e)) _ (need-decides (isTest c) 22 at) (λ t.
+      draw-gives (Kept Rs Ps (TestNegation e)) (size (negate c)) at (negate c) (λ h. not-means c (means others Rs e) t (f h))))
+  desugar-means {cs} {Rs} {Ps} hs (IfThenElse c t e) at =
+      let Q : Core → Type 0 = Kept Rs Ps (IfThenElse c t e) in
+      bind-gives (Kept Rs Ps c) Q (desugar cs c (at + 1)) _ (desugar-means hs c (at + 1)) (λ c′ f.
+      bind-gives (Kept Rs Ps t) Q (desugar cs t (at + 1 + records c)) _ (desugar-means hs t (at + 1 + records c)) (λ t′ g.
+      bind-gives (Kept Rs Ps e) Q (desugar cs e (at + 1 + records c + records t)) _ (desugar-means hs e (at + 1 + records c + records t)) (λ e′ k.
       rule-gives Q _ (need-decides (isTest c′) 23 at) (λ s.
       draw-gives Q (size (negate c′) + 3) at (two Union (two Sequence c′ t′) (two Sequence (negate c′) e′))
-      (if-means c′ t′ e′ (means others Rs c) (means others Rs t) (means others Rs e) s f g k)))))
-  desugar-means {cs} {Rs} hs (Let x d b) h at =
-      bind-gives (λ c. coreMeans others c ≈ means others Rs d) (λ c. coreMeans others c ≈ means others Rs (Let x d b)) (desugar cs d (at + 1)) _ (desugar-means hs d (h .0) (at + 1)) (λ c f.
-      desugar-means (variables f hs) b (h .1) (at + 1 + records d))
-  desugar-means {cs} {Rs} hs (LetBitRange x s e b) h at = desugar-means (ranges hs) b h (at + 1)
-  desugar-means {cs} {Rs} hs (Var x) h at = variable-gives (lookupVariable cs x) (lookupVariable Rs x) (lookupAlias cs x) at (variable-same x hs)
-  desugar-means {cs} {Rs} hs (Ranged (Direct s e) u) h at = range-gives (Direct s e) u (some (s, e)) at
-  desugar-means {cs} {Rs} hs (Ranged (Alias x) u) h at = rw (← (alias-same x hs)) (range-gives (Alias x) u (lookupAlias cs x) at)
+      (λ h. if-means c′ t′ e′ (means others Rs c) (means others Rs t) (means others Rs e) s (f (h .0)) (g (h .1)) (k (h .2)))))))
+  desugar-means {cs} {Rs} {Ps} hs (Let x d b) at =
+      bind-gives (Kept Rs Ps d) (Kept Rs Ps (Let x d b)) (desugar cs d (at + 1)) _ (desugar-means hs d (at + 1)) (λ c f.
+      desugar-means (variables f hs) b (at + 1 + records d))
+  desugar-means {cs} {Rs} {Ps} hs (LetBitRange x s e b) at = desugar-means (ranges hs) b (at + 1)
+  desugar-means {cs} {Rs} {Ps} hs (Var x) at = variable-gives (lookupAlias cs x) at (variable-same x hs)
+  desugar-means {cs} {Rs} {Ps} hs (Ranged (Direct s e) u) at = range-gives (Direct s e) u (some (s, e)) at
+  desugar-means {cs} {Rs} {Ps} hs (Ranged (Alias x) u) at = rw (← (alias-same x hs)) (range-gives (Alias x) u (lookupAlias cs x) at)

@@ -7,6 +7,7 @@ use Rattle.literals.proofs.Logic.{and-both, and-left, and-right, beq-is, or-cas
 use Rattle.expr.specs.Terms.{Assign, Atom, Core, Difference, Dup, End, Intersect, LtlUntil, One, Op2, Sequence, Test, Top, Union, Xor, Zero, atomKind, leaf, one, op2Kind, testKind, two}
 use Rattle.desugar.specs.Negation.{again, isOne, isTest, join, negate}
 use Rattle.desugar.specs.Packets.{Others, Packet, Relation, atomMeans, coreMeans, op2Means}
+use Rattle.desugar.proofs.Sorts.{test-of-negate}
 
 -- whether a test lets a packet pass
 abbrev pub passesAtom : Atom → Packet → Bool
@@ -199,12 +200,12 @@ passes-negate (two LtlUntil a b) h p = absurd (false≢true h)
 
 module _ (others : Others) where
   -- the negation of a test relates a packet to itself exactly where the test does not
-  pub negate-means : (c : Core) → isTest c ≡ true → isTest (negate c) ≡ true → (p q : Packet) → coreMeans others (negate c) p q ↔ ((p ≡ q) × ¬ coreMeans others c p p)
-  negate-means c h k p q = (
+  pub negate-means : (c : Core) → isTest c ≡ true → (p q : Packet) → coreMeans others (negate c) p q ↔ ((p ≡ q) × ¬ coreMeans others c p p)
+  negate-means c h p q = (
     (λ m. (
-      test-filters others (negate c) k p q .0 m .0,
-      λ m′. not-true (passes c p) .0 (sym (passes-negate c h p) ∙ test-filters others (negate c) k p q .0 m .1) (test-filters others c h p p .0 m′ .1),
+      test-filters others (negate c) (test-of-negate c h) p q .0 m .0,
+      λ m′. not-true (passes c p) .0 (sym (passes-negate c h p) ∙ test-filters others (negate c) (test-of-negate c h) p q .0 m .1) (test-filters others c h p p .0 m′ .1),
     )),
-    (λ m. test-filters others (negate c) k p q .1
+    (λ m. test-filters others (negate c) (test-of-negate c h) p q .1
         (m .0, passes-negate c h p ∙ not-true (passes c p) .1 (λ e. m .1 (test-filters others c h p p .1 (refl, e))))),
   )

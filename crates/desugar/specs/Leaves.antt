@@ -34,16 +34,16 @@ abbrev pub highFirst : ℕ → Bits → List Core
 highFirst s [] = []
 highFirst s (b ∷ bs) = highFirst (suc s) bs ++ leaf (Test s b) ∷ []
 
--- a term for each bit of the bound that is d: the bits above it agree with the bound, and it is not d itself
-abbrev pub partings : Bool → ℕ → Bits → List Core
-partings d s [] = []
-partings d s (b ∷ bs) =
-    partings d (suc s) bs
+-- a term for each bit of the bound that is d: the fields above it agree with the bound, and its field is the first to differ
+abbrev pub differences : Bool → ℕ → Bits → List Core
+differences d s [] = []
+differences d s (b ∷ bs) =
+    differences d (suc s) bs
     ++ cond (Bool·beq b d) (chain Intersect One (highFirst (suc s) bs ++ leaf (Test s (not d)) ∷ []) ∷ []) []
 
--- the upper term (d true) or the lower term (d false): the fields part from the bound on the right side, or are the bound
+-- the upper term (d true) or the lower term (d false): the fields differ first where the bound has d, or are the bound
 abbrev pub bound : Bool → ℕ → Bits → Core
-bound d s a = chain Union Zero (partings d s a ++ chain Intersect One (highFirst s a) ∷ [])
+bound d s a = chain Union Zero (differences d s a ++ chain Intersect One (highFirst s a) ∷ [])
 
 -- "Range: equal bounds give the Exact chain; ..": are the bounds equal, is the lower one 0, is the upper one the highest value
 abbrev pub betweenCase : Bool → Bool → Bool → ℕ → Bits → Bits → Core

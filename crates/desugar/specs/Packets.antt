@@ -99,14 +99,14 @@ module _ (others : Others) where
   means env (Var x) p q = Option·getD (lookupVariable env x) (λ p q. ⊥) p q
   means env (Ranged w u) p q = rangeMeans u (findRange env w) p q
 
--- only one-step kinds
-abbrev pub OneStep : Expr → Type 0
-OneStep (Plain a) = oneStep (atomKind a) ≡ true
-OneStep (Unary o e) = (oneStep (op1Kind o) ≡ true) × OneStep e
-OneStep (Binary o a b) = (oneStep (op2Kind o) ≡ true) × OneStep a × OneStep b
-OneStep (TestNegation e) = OneStep e
-OneStep (IfThenElse c t e) = OneStep c × OneStep t × OneStep e
-OneStep (Let x d b) = OneStep d × OneStep b
-OneStep (LetBitRange x s e b) = OneStep b
-OneStep (Var x) = Unit {0}
-OneStep (Ranged w u) = Unit {0}
+-- a term has only one-step kinds, its variables' definitions included where they are used: env has that of each variable around
+abbrev pub OneStep : Env (Type 0) → Expr → Type 0
+OneStep env (Plain a) = oneStep (atomKind a) ≡ true
+OneStep env (Unary o e) = (oneStep (op1Kind o) ≡ true) × OneStep env e
+OneStep env (Binary o a b) = (oneStep (op2Kind o) ≡ true) × OneStep env a × OneStep env b
+OneStep env (TestNegation e) = OneStep env e
+OneStep env (IfThenElse c t e) = OneStep env c × OneStep env t × OneStep env e
+OneStep env (Let x d b) = OneStep (variable x (OneStep env d) ∷ env) b
+OneStep env (LetBitRange x s e b) = OneStep (range x s e ∷ env) b
+OneStep env (Var x) = Option·getD (lookupVariable env x) (Unit {0})
+OneStep env (Ranged w u) = Unit {0}

@@ -13,7 +13,7 @@ abbrev pub andThen : {A B : Type 0} → Answer A → (A → Answer B) → Answer
 andThen (ok a) f = f a
 andThen (refuse r at) f = refuse r at
 
--- the same answer with its result seen through f
+-- the same answer with f applied to its result
 abbrev pub mapAnswer : {A B : Type 0} → (A → B) → Answer A → Answer B
 mapAnswer f (ok a) = ok (f a)
 mapAnswer f (refuse r at) = refuse r at

@@ -19,7 +19,7 @@ pub data Node : Type 0 where
   node2 : (Expr → Expr → Expr) → Node
   node3 : (Expr → Expr → Expr → Expr) → Node
 
--- "4 pattern (1: 0 Exact, 1 Cidr, 2 Wildcard, 3 IpRange)"
+-- "4 pattern (1: 0 Exact, 1 Cidr, 2 Wildcard, 3 IpRange; .."
 abbrev pub patternOf : Record → Pattern
 patternOf h = getD (Exact h.litA ∷ Cidr h.litA h.number ∷ Wildcard h.litA h.litB ∷ IpRange h.litA h.litB ∷ []) h.pattern (Exact h.litA)
 

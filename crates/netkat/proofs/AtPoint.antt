@@ -16,7 +16,7 @@ use Rattle.desugar.proofs.EnvLaws.{mapEnv}
 use Rattle.desugar.proofs.Sound.{EnvMeans, IfOk, desugar-means, nothing, ranges, variables}
 use Rattle.desugar.proofs.Tests.{_≈_}
 use Rattle.netkat.specs.Check.{RulesHold, check, firstFailure, sorts, testSort}
-use Rattle.netkat.specs.Points.{OneSteps, Point, Scope, cores, definitions, desugarAt, meanings, meansAt, walk}
+use Rattle.netkat.specs.Points.{Point, Scope, cores, definitions, desugarAt, meanings, meansAt, oneSteps, walk}
 use Rattle.netkat.proofs.Agree.{Seen, agree, refused, seen}
 use Rattle.netkat.proofs.CheckWalk.{check-is-walk, first-failure-append}
 use Rattle.netkat.proofs.Rules.{behind-rule, none-fails, rules-append}
@@ -121,31 +121,32 @@ then-ok (ok a) f b h = (a, refl, h)
 then-ok (refuse r at) f b h = let z : _≡_ {A = ℕ} 0 1 = cc in absurd (omega arith)
 
 module _ (others : Others) where
-  core-means : (cs : Env Core) (Rs : Env Relation) (e : Expr) (at : ℕ) (r : Core × Meter) → EnvMeans others cs Rs → OneStep e
-      → desugar cs e at (spent []) ≡ ok r → coreMeans others (r .0) ≈ means others Rs e
-  core-means cs Rs e at r hs o h = subst (IfOk (λ c. coreMeans others c ≈ means others Rs e)) h (desugar-means others hs e o at (spent []))
+  core-means : (cs : Env Core) (Rs : Env Relation) (Ps : Env (Type 0)) (e : Expr) (at : ℕ) (r : Core × Meter) → EnvMeans others cs Rs Ps
+      → desugar cs e at (spent []) ≡ ok r → OneStep Ps e → coreMeans others (r .0) ≈ means others Rs e
+  core-means cs Rs Ps e at r hs h =
+      subst (IfOk (λ c. OneStep Ps e → coreMeans others c ≈ means others Rs e)) h (desugar-means others hs e at (spent []))
 
-  cores-mean : (sc : Scope) → OneSteps sc → (env : Env Core) → cores sc ≡ ok env → EnvMeans others env (meanings others sc)
-  cores-mean [] o env h = let e : env ≡ [] = cc in rw e nothing
-  cores-mean (range x s e ∷ sc) o env h =
+  cores-mean : (sc : Scope) (env : Env Core) → cores sc ≡ ok env → EnvMeans others env (meanings others sc) (oneSteps sc)
+  cores-mean [] env h = let e : env ≡ [] = cc in rw e nothing
+  cores-mean (range x s e ∷ sc) env h =
       let k = then-ok (cores sc) (λ env. ok (range x s e ∷ env)) env h in
       let q : env ≡ range x s e ∷ k .0 = cc (k .2) in
-      rw q (ranges (cores-mean sc o (k .0) (k .1)))
-  cores-mean (variable x d ∷ sc) o env h =
+      rw q (ranges (cores-mean sc (k .0) (k .1)))
+  cores-mean (variable x d ∷ sc) env h =
       let k = then-ok (cores sc) (λ env. andThen (desugar env (d .0) (d .1) (spent [])) λ r. ok (variable x (r .0) ∷ env)) env h in
       let l = then-ok (desugar (k .0) (d .0) (d .1) (spent [])) (λ r. ok (variable x (r .0) ∷ k .0)) env (k .2) in
       let q : env ≡ variable x (l .0 .0) ∷ k .0 = cc (l .2) in
-      let hs : EnvMeans others (k .0) (meanings others sc) = cores-mean sc (o .1) (k .0) (k .1) in
-      rw q (variables (core-means (k .0) (meanings others sc) (d .0) (d .1) (l .0) hs (o .0) (l .1)) hs)
+      let hs : EnvMeans others (k .0) (meanings others sc) (oneSteps sc) = cores-mean sc (k .0) (k .1) in
+      rw q (variables (core-means (k .0) (meanings others sc) (oneSteps sc) (d .0) (d .1) (l .0) hs (l .1)) hs)
 
   -- where it succeeds, the core relates the packets that the written subterm relates
-  pub desugar-at-means : (sc : Scope) (e : Expr) (at : ℕ) → OneSteps sc → OneStep e → (c : Core) → desugarAt sc e at ≡ ok c
+  pub desugar-at-means : (sc : Scope) (e : Expr) (at : ℕ) → OneStep (oneSteps sc) e → (c : Core) → desugarAt sc e at ≡ ok c
       → coreMeans others c ≈ meansAt others sc e
-  desugar-at-means sc e at os o c h =
+  desugar-at-means sc e at o c h =
       let k = then-ok (cores sc) (λ env. mapAnswer (λ r. r .0) (desugar env e at (spent []))) c h in
-      go (desugar (k .0) e at (spent [])) refl (cores-mean sc os (k .0) (k .1)) (k .2)
+      go (desugar (k .0) e at (spent [])) refl (cores-mean sc (k .0) (k .1)) (k .2)
     where
-      go : {env : Env Core} (x : Answer (Core × Meter)) → desugar env e at (spent []) ≡ x → EnvMeans others env (meanings others sc)
+      go : {env : Env Core} (x : Answer (Core × Meter)) → desugar env e at (spent []) ≡ x → EnvMeans others env (meanings others sc) (oneSteps sc)
           → mapAnswer (λ r. r .0) x ≡ ok c → coreMeans others c ≈ meansAt others sc e
-      go {env} (ok r) p hs q = let z : r .0 ≡ c = cc in rw (← z) (core-means env (meanings others sc) e at r hs o p)
+      go {env} (ok r) p hs q = let z : r .0 ≡ c = cc in rw (← z) (core-means env (meanings others sc) (oneSteps sc) e at r hs p o)
       go (refuse r at) p hs q = let z : _≡_ {A = ℕ} 0 1 = cc in absurd (omega arith)

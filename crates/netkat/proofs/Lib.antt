@@ -4,5 +4,6 @@ pub mod Agree
 pub mod Inside
 pub mod Rules
 pub mod AtPoint
+pub mod Numbers
 pub mod Whole
 pub mod Theorems

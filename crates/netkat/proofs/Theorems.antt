@@ -1,6 +1,6 @@
 -- The theorems on the definitions, in the order in which document 01 asks for them. A reviewer reads the statements here first; each
 -- proof is a line that cites the laws beside this file and in the crates below.
-use mathlib.Core.Path.{_≡_, refl, sym, ap, _∙_}
+use mathlib.Core.Path.{_≡_, refl, sym, ap, subst, _∙_}
 use mathlib.Core.Logic.{_↔_}
 use mathlib.Core.Bool.{Bool, true, false}
 use mathlib.Core.List.{List, [], _∷_, _++_, map, List·Memᴰ}
@@ -23,16 +23,17 @@ use Rattle.desugar.proofs.Limit.{Limit, limit}
 use Rattle.desugar.proofs.Patterns.{Sets, TestsFor, assign-form, match-form, test-form}
 use Rattle.desugar.proofs.Probes.{asked, starred, starred-probes}
 use Rattle.netkat.specs.Check.{RulesHold, check, checkBytes, firstFailure, sorts, testSort}
-use Rattle.netkat.specs.Points.{OneSteps, Point, Scope, definitions, desugarAt, meansAt, walk}
+use Rattle.netkat.specs.Points.{Point, Scope, definitions, desugarAt, meansAt, oneSteps, walk}
 use Rattle.netkat.proofs.AtPoint.{desugar-at-answers, desugar-at-means, desugar-at-succeeds}
-use Rattle.netkat.proofs.Inside.{PointAt, each-record, inside-points, walk-inside, walk-length}
+use Rattle.netkat.proofs.Inside.{Inside, PointAt, each-record, inside-points, walk-inside, walk-length}
+use Rattle.netkat.proofs.Numbers.{Numbered, desugar-at-numbers}
 use Rattle.netkat.proofs.Rules.{behind-rule, none-fails, rules-append}
 use Rattle.netkat.proofs.Whole.{Desugared, Desugars, Good, Refusal, check-bytes, desugar-bytes, desugared-bytes, refused-bytes}
 
 -- ## Form: what is accepted
 
 -- A list of bytes is accepted exactly if it is the encoding of a term within the limits (expr/specs/Form.antt: Within), and then it
--- is read as that term: "all other input is accepted", and nothing is read in two ways
+-- is read as that term: all other input is accepted, and nothing is read in two ways
 pub form-theorem : (bs : List ℕ) (e : Expr) → Bytes bs → (decode bs ≡ ok e) ↔ (Within e × (bs ≡ encode e))
 form-theorem = form-exact
 
@@ -87,14 +88,16 @@ limit-theorem = limit
 
 -- For the subterm e that begins at a record, with the Lets and LetBitRanges sc around it
 pub record AtPoint (others : Others) (sc : Scope) (e : Expr) (at : ℕ) : Type 0 where
-  -- "the check's rules hold exactly when desugaring there is not refused": at each record of the definitions around, and of the subterm
+  -- the rules hold exactly when desugaring there is not refused: at each record of the definitions around, and of the subterm
   pub succeeds : ((c : Core) × (desugarAt sc e at ≡ ok c)) ↔ (RulesHold (definitions sc) × RulesHold (walk sc e at))
   -- where the definitions around pass, the subterm's own rules decide
   pub passing : RulesHold (definitions sc) → ((c : Core) × (desugarAt sc e at ≡ ok c)) ↔ RulesHold (walk sc e at)
   -- "It is refused where one of 11 to 23 first fails"; else its core is a test exactly where the written subterm is of that sort
   pub answers : mapAnswer isTest (desugarAt sc e at) ≡ andThen (firstFailure (definitions sc ++ walk sc e at)) (λ _. ok (testSort (sorts sc) e))
-  -- "the core means what was written there, for every two packets"
-  pub means : OneSteps sc → OneStep e → (c : Core) → desugarAt sc e at ≡ ok c → (p q : Packet) → coreMeans others c p q ↔ meansAt others sc e p q
+  -- "and never by 24, 26 or lack of room"
+  pub numbers : (r p : ℕ) → desugarAt sc e at ≡ refuse r p → (11 ≤ r) × (r ≤ 23)
+  -- the core means what was written there, for every two packets, if the subterm and the definitions that it uses are one-step
+  pub means : OneStep (oneSteps sc) e → (c : Core) → desugarAt sc e at ≡ ok c → (p q : Packet) → coreMeans others c p q ↔ meansAt others sc e p q
 
 pub at-any-point : (others : Others) (sc : Scope) (e : Expr) (at : ℕ) → AtPoint others sc e at
 at-any-point others sc e at =
@@ -105,12 +108,17 @@ at-any-point others sc e at =
         (λ k. desugar-at-succeeds sc e at .1 (h, k)),
       );
       answers = desugar-at-answers sc e at;
+      numbers = λ r p h. subst (Numbered 11 23) h (desugar-at-numbers sc e at);
       means = desugar-at-means others sc e at;
     }
 
--- the points of a term are as many as its records, and each record is the place of one
+-- "a point is a record of the term, with the subterm that begins there": as many as its records, one at each, and each with the
+-- subterm that begins there and what stands around it (Inside.antt: Inside has a case for each way down)
 pub points-are-records : (e : Expr) → (length (walk [] e 0) ≡ records e) × ((i : ℕ) → i < records e → PointAt (walk [] e 0) i)
 points-are-records e = (walk-length [] e 0, λ i h. rw (zero-add i) at (each-record [] e 0 i h))
+
+pub points-lie-inside : (e : Expr) (p : Point) → List·Memᴰ p (walk [] e 0) → Inside (p .scope) (p .term) (p .place) [] e 0
+points-lie-inside e p m = walk-inside [] e 0 p m
 
 -- where Check succeeds on a whole term, desugaring succeeds at each of its points
 pub everywhere : (e : Expr) (s : Bool) → check [] e 0 ≡ ok s → (p : Point) → List·Memᴰ p (walk [] e 0)
@@ -123,14 +131,14 @@ everywhere e s h p m =
 
 -- ## The whole term on its bytes, whatever the allowance and the buffers
 
--- "Check .. succeeds exactly where the form is good and rules 11 to 23 hold at every record"
-pub check-theorem : (bs : List ℕ) → ((s : Bool) × (checkBytes bs ≡ ok s)) ↔ ((e : Expr) × Good bs e)
-check-theorem = check-bytes
+-- "Check .. succeeds exactly where the form is good and rules 11 to 23 hold at every record". "Success says whether the term is a test."
+pub check-theorem : (bs : List ℕ) (s : Bool) → (checkBytes bs ≡ ok s) ↔ ((e : Expr) × Good bs e × (s ≡ testSort [] e))
+check-theorem bs s = check-bytes bs s
 
--- "where Check succeeds, Desugar succeeds or answers 9, 10, 24 or 26, each only for its cause above", 24 at the first draw
--- beyond the allowance (Whole.antt: Desugars, Outcome)
-pub desugar-theorem : (bs : List ℕ) (s : Bool) → checkBytes bs ≡ ok s → (e : Expr) × Desugars bs e
-desugar-theorem bs s h = let g = check-bytes bs .0 (s, h) in (g .0, desugar-bytes bs (g .0) (g .1))
+-- "where Check succeeds, Desugar succeeds or answers 9, 10, 24 or 26, each only for its cause above" (Whole.antt: Desugars, Outcome): 24
+-- only if the draws, in walking order, come to more than the allowance, and then at the first that goes beyond it
+pub desugar-theorem : (bs : List ℕ) (s : Bool) → checkBytes bs ≡ ok s → (e : Expr) × Good bs e × Desugars bs e
+desugar-theorem bs s h = let g = check-bytes bs s .0 h in (g .0, g .1, desugar-bytes bs (g .0) (g .1))
 
 -- "where Desugar succeeds, Check refuses by neither form nor rule, and the bytes Desugar wrote are those of the core made without limit",
 -- with the sum of its draws (Whole.antt: Desugared)
@@ -138,7 +146,7 @@ pub desugared-theorem : (bs : List ℕ) (n work room : ℕ) (out : List ℕ) (m 
     → ((s : Bool) × (checkBytes bs ≡ ok s)) × Desugared bs out m
 desugared-theorem bs n work room out m h =
     let d : Desugared bs out m = desugared-bytes bs n work room out m h in
-    (check-bytes bs .1 (d .term, d .good), d)
+    ((testSort [] (d .term), check-bytes bs (testSort [] (d .term)) .1 (d .term, d .good, refl)), d)
 
 -- where Check refuses, Desugar answers 9, 10 or the same refusal, or 24 where the allowance is spent before the rule that fails
 -- (Whole.antt: Refusal)
@@ -147,5 +155,6 @@ refused-theorem = refused-bytes
 
 -- ## The starred probes
 
+-- "* x[0..2] == 1/2: .." to the last starred sentence, bytes included, as one list (desugar/proofs/Probes.antt)
 pub starred-theorem : map (λ p. asked (p .0)) starred ≡ map (λ p. ok (p .1)) starred
 starred-theorem = starred-probes

@@ -28,15 +28,14 @@ pub record Good (bs : List ℕ) (e : Expr) : Type 0 where
   pub form : decode bs ≡ ok e
   pub rules : RulesHold (walk [] e 0)
 
--- Check succeeds exactly there
-pub check-bytes : (bs : List ℕ) → ((s : Bool) × (checkBytes bs ≡ ok s)) ↔ ((e : Expr) × Good bs e)
-check-bytes bs = (
-  (λ h. let k = then-ok (decode bs) (λ e. check [] e 0) (h .0) (h .1) in
-      (k .0, record { form = k .1; rules = none-fails (walk [] (k .0) 0) .0 (behind-rule (firstFailure (walk [] (k .0) 0)) (k .2) .0) })),
-  (λ g. (
-    testSort [] (g .0),
-    ap (λ (x : Answer Expr). andThen x (λ e. check [] e 0)) (g .1 .form) ∙ check-succeeds [] (g .0) 0 .1 (g .1 .rules),
-  )),
+-- Check succeeds exactly there, and says whether the term is a test
+pub check-bytes : (bs : List ℕ) (s : Bool) → (checkBytes bs ≡ ok s) ↔ ((e : Expr) × Good bs e × (s ≡ testSort [] e))
+check-bytes bs s = (
+  (λ h. let k = then-ok (decode bs) (λ e. check [] e 0) s h in
+      let b = behind-rule (firstFailure (walk [] (k .0) 0)) (k .2) in
+      (k .0, record { form = k .1; rules = none-fails (walk [] (k .0) 0) .0 (b .0) }, b .1)),
+  (λ g. ap (λ (x : Answer Expr). andThen x (λ e. check [] e 0)) (g .1 .form) ∙ check-succeeds [] (g .0) 0 .1 (g .1 .rules)
+      ∙ ap (λ (b : Bool). ok b) (sym (g .2))),
 )
 
 -- ## What Desugar answers

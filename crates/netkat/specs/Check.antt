@@ -6,10 +6,10 @@ use Rattle.expr.specs.{Answers.Answer, Answers.ok, Answers.andThen, Answers.map
 use Rattle.desugar.specs.{Bindings.Env, Bindings.variable, Bindings.range, Bindings.lookupVariable, Bindings.lookupAlias, Bindings.findRange, Rules.knownRange, Rules.boundVariable, Rules.rangeRule}
 use Rattle.netkat.specs.{Points.Scope, Points.Point, Points.walk}
 
--- "tests, matches .. are tests; so is a range or alias assignment of width 0": where the range is known
+-- "tests, matches .. are tests; so is a range or alias assignment of width 0"
 abbrev pub testRange : Use → Option (ℕ × ℕ) → Bool
 testRange u (some r) = isTestUse u || eqb (r .0) (r .1)
-testRange u none = false
+testRange u none = isTestUse u
 
 -- "Test sort: Zero, One, tests, matches and negations are tests; ..": given which variables around are tests
 abbrev pub testSort : Env Bool → Expr → Bool

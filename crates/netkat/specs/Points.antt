@@ -60,8 +60,8 @@ meanings others (range x s e ∷ sc) = range x s e ∷ meanings others sc
 abbrev pub meansAt : Others → Scope → Expr → Relation
 meansAt others sc e = means others (meanings others sc) e
 
--- the definitions around a point have only one-step kinds
-abbrev pub OneSteps : Scope → Type 0
-OneSteps [] = Unit {0}
-OneSteps (variable x d ∷ sc) = OneStep (d .0) × OneSteps sc
-OneSteps (range x s e ∷ sc) = OneSteps sc
+-- which definitions around a point have only one-step kinds
+abbrev pub oneSteps : Scope → Env (Type 0)
+oneSteps [] = []
+oneSteps (variable x d ∷ sc) = variable x (OneStep (oneSteps sc) (d .0)) ∷ oneSteps sc
+oneSteps (range x s e ∷ sc) = range x s e ∷ oneSteps sc
