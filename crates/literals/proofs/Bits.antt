@@ -3,7 +3,7 @@ use mathlib.Core.Path.{_≡_, refl, sym, ap, _∙_}
 use mathlib.Core.Bool.{Bool, true, false}
 use mathlib.Core.List.{List, [], _∷_, _++_}
 use Prim.Native.Nat.{ℕ, zero, suc, _+_, _-_, _*_, _/_, _%_, _^_, _≤_, _<_}
-use native.Mathlib.Nat.{zero-div, div-one, pow-succ', div-div-eq-div-mul, add-mul-div-left, div-add-mod}
+use native.Mathlib.Nat.{zero-div, div-one, pow-succ', div-div-eq-div-mul, add-mul-div-left, div-add-mod, pow-le-pow-right}
 use native.Mathlib.Omega.{arith}
 use lib.Dec.{eqb}
 use lib.ListN.{length, getD, replicate, length-append, length-replicate, List·getD-append}
@@ -54,6 +54,9 @@ pub value-below : (a : Bits) → valueOf a < 2 ^ length a
 value-below [] = omega arith
 value-below (true ∷ a) = rw (double (length a)) (omega (arith, value-below a))
 value-below (false ∷ a) = rw (double (length a)) (omega (arith, value-below a))
+
+pub value-within : (n : ℕ) (a : Bits) → length a ≤ n → valueOf a < 2 ^ n
+value-within n a h = omega (arith, value-below a, pow-le-pow-right {n = 2} (omega arith) h)
 
 pub length-bits : (n v : ℕ) → length (bitsOf n v) ≡ n
 length-bits zero v = refl

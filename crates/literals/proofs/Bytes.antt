@@ -2,11 +2,12 @@
 use mathlib.Core.Path.{_≡_, refl, sym, ap, _∙_}
 use mathlib.Core.List.{List, [], _∷_, _++_}
 use Prim.Native.Nat.{ℕ, zero, suc, _+_, _*_, _/_, _%_, _^_, _≤_, _<_}
-use native.Mathlib.Nat.{pow-succ', pow-le-pow-right}
+use native.Mathlib.Nat.{pow-succ', div-eq-of-lt, add-mul-div-left}
 use native.Mathlib.Omega.{arith}
-use lib.ListN.{length, take, drop, length-take}
+use lib.ListN.{length, take, drop, length-take, take-append-drop}
+use lib.Seq.{drop-nil, length-take-le, take-append-le, drop-append-add}
 use Rattle.literals.specs.Bits.{Bits, valueOf, bitsOf, pad, Bytes, numberOf, bytesOf, unpack, pack}
-use Rattle.literals.proofs.Bits.{length-pad, value-of-pad, value-of-injective, value-below, value-of-bits}
+use Rattle.literals.proofs.Bits.{length-pad, value-of-pad, value-of-injective, value-within, value-of-bits}
 
 -- ## Lists of bytes
 
@@ -72,10 +73,34 @@ pub length-unpack : (bs : List ℕ) → length (unpack bs) ≡ 8 * length bs
 length-unpack [] = refl
 length-unpack (b ∷ bs) = omega (arith, length-unpack bs)
 
-value-below-take : (n : ℕ) (a : Bits) → valueOf (take n a) < 2 ^ n
-value-below-take n a =
-    let h : length (take n a) ≤ n = omega (arith, length-take n a) in
-    omega (arith, value-below (take n a), pow-le-pow-right {n = 2} (omega arith) h)
+pub value-below-take : (n : ℕ) (a : Bits) → valueOf (take n a) < 2 ^ n
+value-below-take n a = value-within n (take n a) (omega (arith, length-take n a))
+
+-- without its n lowest bits
+pub value-of-drop : (n : ℕ) (a : Bits) → valueOf (drop n a) ≡ valueOf a / 2 ^ n
+value-of-drop n a =
+    let h : valueOf (take n a) < 2 ^ n = value-below-take n a in
+    sym (ap (λ v. v / 2 ^ n) (value-of-split n a) ∙ add-mul-div-left (valueOf (take n a)) (valueOf (drop n a)) (omega arith) ∙ omega (arith, div-eq-of-lt h))
+
+unpack-append : (a b : List ℕ) → unpack (a ++ b) ≡ unpack a ++ unpack b
+unpack-append [] b = refl
+unpack-append (x ∷ a) b = ap (λ (u : Bits). bitsOf 8 x ++ u) (unpack-append a b)
+
+-- the first n bits lie in the first m bytes
+pub take-unpack : (n m : ℕ) (bs : List ℕ) → n ≤ 8 * m → m ≤ length bs → take n (unpack (take m bs)) ≡ take n (unpack bs)
+take-unpack n m bs h k =
+    let long : n ≤ length (unpack (take m bs)) = omega (arith, length-unpack (take m bs), length-take-le m bs k) in
+    sym
+    (ap (λ (cs : List ℕ). take n (unpack cs)) (sym (take-append-drop m bs))
+    ∙ ap (take n) (unpack-append (take m bs) (drop m bs))
+    ∙ take-append-le n (unpack (take m bs)) (unpack (drop m bs)) long)
+
+pub drop-unpack : (m : ℕ) (bs : List ℕ) → drop (8 * m) (unpack bs) ≡ unpack (drop m bs)
+drop-unpack zero bs = refl
+drop-unpack (suc m) [] = drop-nil (8 * suc m)
+drop-unpack (suc m) (b ∷ bs) =
+    let e : 8 * suc m ≡ 8 + 8 * m = omega arith in
+    ap (λ k. drop k (unpack (b ∷ bs))) e ∙ drop-append-add (bitsOf 8 b) (unpack bs) (8 * m) ∙ drop-unpack m bs
 
 -- packed bits are the bytes of the number that they spell
 pub pack-is : (n : ℕ) (a : Bits) → pack n a ≡ bytesOf n (valueOf a)
@@ -97,7 +122,7 @@ two-powers (suc n) =
 -- unpacking gives the bits again, with false high bits
 pub unpack-pack : (n : ℕ) (a : Bits) → length a ≤ 8 * n → unpack (pack n a) ≡ pad (8 * n) a
 unpack-pack n a h =
-    let below : valueOf a < 256 ^ n = omega (arith, value-below a, pow-le-pow-right {n = 2} (omega arith) h, two-powers n) in
+    let below : valueOf a < 256 ^ n = omega (arith, value-within (8 * n) a h, two-powers n) in
     let value : valueOf (unpack (bytesOf n (valueOf a))) ≡ valueOf (pad (8 * n) a) =
     value-of-unpack (bytesOf n (valueOf a)) (bytes-of-bytes n (valueOf a)) ∙ number-of-bytes n (valueOf a) below ∙ sym (value-of-pad (8 * n) a) in
     let long : length (unpack (bytesOf n (valueOf a))) ≡ length (pad (8 * n) a) =

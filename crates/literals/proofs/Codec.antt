@@ -56,6 +56,16 @@ chunk-back (suc n) (b ∷ bs) =
 pub chunk-only : (n : ℕ) (bs a rest : List ℕ) → chunk n bs ≡ got a rest → (length a ≡ n) × (bs ≡ a ++ rest)
 chunk-only n bs a rest e = if-got (Chunk n bs) (chunk n bs) (chunk-back n bs) e
 
+pub chunk-take : (n : ℕ) (bs : List ℕ) → n ≤ length bs → chunk n bs ≡ got (take n bs) (drop n bs)
+chunk-take zero bs h = refl
+chunk-take (suc n) [] h = absurd (omega arith)
+chunk-take (suc n) (b ∷ bs) h = rw (chunk-take n bs (omega arith)) refl
+
+pub chunk-lacks : (n : ℕ) (bs : List ℕ) → length bs < n → chunk n bs ≡ fault 1
+chunk-lacks zero bs h = absurd (omega arith)
+chunk-lacks (suc n) [] h = refl
+chunk-lacks (suc n) (b ∷ bs) h = rw (chunk-lacks n bs (omega arith)) refl
+
 -- ## Codecs
 
 -- what reading leaves: a good value, whose bytes are the ones that were read

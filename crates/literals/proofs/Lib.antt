@@ -3,3 +3,4 @@ pub mod Logic
 pub mod Bits
 pub mod Bytes
 pub mod Codec
+pub mod Values

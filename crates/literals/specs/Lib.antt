@@ -2,3 +2,4 @@
 pub mod Bits
 pub mod Patterns
 pub mod Reading
+pub mod Results

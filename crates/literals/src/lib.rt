@@ -1,8 +1,33 @@
-// Literals: bits packed in bytes, lowest bit first.
+// Literals: bits packed in bytes, lowest bit first. A literal is given by the bytes that its bits begin in, and how many bits it has.
 ghost use mathlib.Core.Path.{_≡_};
 ghost use mathlib.Core.Bool.{false};
-ghost use lib.ListN.{getD};
-ghost use Rattle.literals.specs.Bits.{unpack};
+ghost use Prim.Native.Nat.{_+_, _^_, _≤_};
+ghost use lib.Dec.{eqb};
+ghost use lib.ListN.{length, getD, take};
+ghost use Rattle.literals.specs.Bits.{valueOf, unpack, pad};
+ghost use Rattle.literals.specs.Results.{LiteralFound, orderOf, comparedOf};
+
+// The longest literal, in bits.
+pub const MAX_LITERAL: usize = 128;
+
+// A literal that was read: the byte at which its bits begin, how many they are, and the byte behind it.
+pub struct Literal {
+    pub at: usize,
+    pub bits: usize,
+    pub next: usize,
+}
+
+pub enum LiteralRead {
+    Found(Literal),
+    Refused(u8),
+}
+
+// How one number stands to another.
+pub enum Order {
+    Below,
+    Equal,
+    Above,
+}
 
 // The bit at an index, and false beyond the end.
 pub fn bit_at(bytes: &[u8], i: usize) -> bool
@@ -15,4 +40,108 @@ pub fn bit_at(bytes: &[u8], i: usize) -> bool
     let byte = bytes[at];
     let shift = i % 8;
     (byte >> shift) % 2 == 1
+}
+
+// The bit at an index of a literal, and false beyond its last.
+pub fn literal_bit(bytes: &[u8], bits: usize, i: usize) -> bool
+    ensures { λ r. ⌜ r ≡ getD (take bits (unpack (now (bytes .entry)))) i false ⌝ }
+{
+    if bits <= i {
+        return false;
+    }
+    bit_at(bytes, i)
+}
+
+// The literal whose length byte is at `at`.
+pub fn read_literal(s: &[u8], at: usize) -> LiteralRead
+    requires { ⌜ at ≤ length (now s) ⌝ }
+    ensures { λ r. ⌜ LiteralFound (now (s .entry)) at r ⌝ }
+{
+    if s.len() <= at {
+        return LiteralRead::Refused(1);
+    }
+    let bits = s[at] as usize;
+    if bits == 0 {
+        return LiteralRead::Refused(4);
+    }
+    if MAX_LITERAL < bits {
+        return LiteralRead::Refused(5);
+    }
+    let first = at + 1;
+    let bytes = (bits + 7) / 8;
+    if s.len() - first < bytes {
+        return LiteralRead::Refused(1);
+    }
+    let next = first + bytes;
+    let spare = bytes * 8 - bits;
+    let last = s[next - 1] as u32;
+    if 0 < last >> (8 - spare) {
+        return LiteralRead::Refused(4);
+    }
+    LiteralRead::Found(Literal {
+        at: first,
+        bits,
+        next,
+    })
+}
+
+// Whether a literal's value is 0.
+pub fn is_zero(bytes: &[u8], bits: usize) -> bool
+    ensures { λ r. ⌜ r ≡ eqb (valueOf (take bits (unpack (now (bytes .entry))))) 0 ⌝ }
+{
+    let mut i = 0;
+    while i < bits {
+        if literal_bit(bytes, bits, i) {
+            return false;
+        }
+        i += 1;
+    }
+    true
+}
+
+// Whether a literal's value is the highest of a width.
+pub fn is_highest(bytes: &[u8], bits: usize, width: usize) -> bool
+    requires { ⌜ bits ≤ width ⌝ }
+    ensures { λ r. ⌜ r ≡ eqb (valueOf (take bits (unpack (now (bytes .entry)))) + 1) (2 ^ width) ⌝ }
+{
+    let mut i = 0;
+    while i < width {
+        if !literal_bit(bytes, bits, i) {
+            return false;
+        }
+        i += 1;
+    }
+    true
+}
+
+// The order of two numbers with one more bit each on top, given the order without these.
+fn compared(below: Order, x: bool, y: bool) -> Order
+    ensures { λ r. ⌜ r ≡ comparedOf below x y ⌝ }
+{
+    if x {
+        if y {
+            return below;
+        }
+        return Order::Above;
+    }
+    if y {
+        return Order::Below;
+    }
+    below
+}
+
+// How the values of two literals of at most `width` bits stand to each other.
+pub fn compare(a: &[u8], a_bits: usize, b: &[u8], b_bits: usize, width: usize) -> Order
+    requires { ⌜ («a_bits» ≤ width) × («b_bits» ≤ width) ⌝ }
+    ensures { λ r. ⌜ r ≡ orderOf (valueOf (take «a_bits» (unpack (now (a .entry))))) (valueOf (take «b_bits» (unpack (now (b .entry))))) ⌝ }
+{
+    let mut order = Order::Equal;
+    let mut i = 0;
+    while i < width {
+        let x = literal_bit(a, a_bits, i);
+        let y = literal_bit(b, b_bits, i);
+        order = compared(order, x, y);
+        i += 1;
+    }
+    order
 }
