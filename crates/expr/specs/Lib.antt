@@ -4,3 +4,4 @@ pub mod Terms
 pub mod Records
 pub mod Form
 pub mod Operations
+pub mod Results

@@ -1,8 +1,8 @@
 -- `expr::is_test_kind` meets its contract: the code's three bounds decide the definition's tests.
 use native.Mathlib.Omega.{arith}
 use borrow.Author.Tests.{le-leb, lt-leb}
-use Rattle.expr.proofs.is_test_kind.Statement.{statement}
-use Rattle.expr.proofs.is_test_kind.Tie as tie
+use Rattle.expr.proofs.records.is_test_kind.Statement.{statement}
+use Rattle.expr.proofs.records.is_test_kind.Tie as tie
 
 returns : tie.Need-returns
 returns c = rw (lt-leb _ 1 (c .before .if1 .left), lt-leb 6 _ (c .if2 .taken))

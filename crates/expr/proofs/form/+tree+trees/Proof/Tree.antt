@@ -1,0 +1,58 @@
+-- The needs of `tree`.
+use borrow.Author.Needs.{needs}
+use native.Mathlib.Omega.{arith}
+use mathlib.Core.Path.{sym}
+use Prim.Native.Nat.{ℕ}
+use Rattle.expr.proofs.Arities.{arity-small}
+use Rattle.expr.proofs.FormSteps.{tree-over, tree-deep, Looked, record-refused, record-inside, record-good}
+use Rattle.expr.proofs.form.tree.Reads as tree
+use Rattle.expr.proofs.form.+tree+trees.Lts-tree as tree-lts
+use Rattle.expr.proofs.form.+tree+trees.Proof.Common.{tree-claims, tree-at}
+
+module _ (t : ℕ) where
+  -- a record was looked for
+  looked : (c : tree-lts.After-read-record (tree-claims t) (tree-at t) tree.Post)
+      → Looked (c .before .before .before .before .args .left) (c .before .before .before .before .args .place) (c .before .before .before .before .args .s .now)
+      (c .read-record .result)
+  looked c = record { deep = c .before .if2 .left; low = c .before .before .if1 .left; found = c .read-record .ensures }
+
+  pub tree-returns : tree-lts.Need-returns (tree-claims t) (tree-at t) tree.Post
+  tree-returns c =
+      let over = tree-over (c .before .before .args .left) (c .before .before .args .place) (c .before .before .args .s .now) (c .if1 .taken) in
+      record { answer = sym over; inside = omega arith }
+
+  pub tree-returns-2 : tree-lts.Need-returns-2 (tree-claims t) (tree-at t) tree.Post
+  tree-returns-2 c =
+      let deep = tree-deep (c .before .before .before .args .left) (c .before .before .before .args .place) (c .before .before .before .args .s .now) (c .if2 .taken) (c .before .if1 .left) in
+      record { answer = sym deep; inside = omega arith }
+
+  pub tree-read-record-requires : tree-lts.Need-read-record-requires (tree-claims t) (tree-at t) tree.Post
+  tree-read-record-requires c κs = search needs
+
+  pub tree-enum-known-number : tree-lts.Need-enum-known-number (tree-claims t) (tree-at t) tree.Post
+  tree-enum-known-number c = search needs
+
+  pub tree-returns-3 : tree-lts.Need-returns-3 (tree-claims t) (tree-at t) tree.Post
+  tree-returns-3 c = record-refused (looked (c .before .before .before)) (c .before .number .given .1)
+
+  pub tree-enum-known-head : tree-lts.Need-enum-known-head (tree-claims t) (tree-at t) tree.Post
+  tree-enum-known-head c = search needs
+
+  pub tree-arity-requires : tree-lts.Need-arity-requires (tree-claims t) (tree-at t) tree.Post
+  tree-arity-requires c κs = search needs
+
+  pub tree-sub-trees : tree-lts.Need-sub-trees (tree-claims t) (tree-at t) tree.Post
+  tree-sub-trees c = search needs
+
+  pub tree-add-trees : tree-lts.Need-add-trees (tree-claims t) (tree-at t) tree.Post
+  tree-add-trees c = search needs
+
+  pub tree-trees-requires : tree-lts.Need-trees-requires (tree-claims t) (tree-at t) tree.Post
+  tree-trees-requires c κs =
+      let few = arity-small (c .before .before .head .given .0 .0 .kind) (c .arity .result) (c .arity .ensures) in (
+        omega arith,
+        record { few = few; start = record-inside (looked (c .before .before .before .before)) (c .before .before .head .given .1); low = omega arith },
+      )
+
+  pub tree-returns-4 : tree-lts.Need-returns-4 (tree-claims t) (tree-at t) tree.Post
+  tree-returns-4 c = record-good (looked (c .before .before .before .before .before)) (c .before .before .before .head .given .1) (c .before .arity .ensures) (c .trees .ensures)
