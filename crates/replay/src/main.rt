@@ -1,0 +1,227 @@
+// Runs the cases of the file `cases` through form, is_test_fragment and num_fields, and compares each answer in full: number,
+// place, value, every byte of the answer buffer. Prints the index of each case that differs, then how many agree and how many there are.
+// tools/cases.py makes the file and says what a case is.
+ghost use Prim.Native.Nat.{_+_, _≤_, _<_};
+ghost use lib.ListN.{length};
+use expr::form::Formed;
+use expr::operations::FieldCount;
+use expr::operations::Fragment;
+use libc::STDOUT_FILENO;
+
+// The head of a case, its numbers read.
+struct Case {
+    operation: u8,
+    ok: bool,
+    name: u16,
+    term: u64,
+    replacement: u64,
+    room: u64,
+    first: u64,
+    second: u64,
+}
+
+// A case that was run: where the next one begins, and whether it agrees.
+struct Ran {
+    next: usize,
+    ok: bool,
+}
+
+struct Tally {
+    agreed: u64,
+    cases: u64,
+}
+
+// An answer or what is expected of one: a success with its value, or a refusal's number and place.
+struct Outcome {
+    ok: bool,
+    first: u64,
+    second: u64,
+}
+
+fn number(a: u8, b: u8, c: u8, d: u8) -> u64 {
+    a as u64 + 256 * (b as u64 + 256 * (c as u64 + 256 * (d as u64)))
+}
+
+fn short(a: u8, b: u8) -> u16 {
+    a as u16 + 256 * (b as u16)
+}
+
+fn head(bytes: &[u8], at: usize) -> Case
+    requires { ⌜ at + 24 ≤ length (now bytes) ⌝ }
+{
+    Case {
+        operation: bytes[at],
+        ok: bytes[at + 1] == 1,
+        name: short(bytes[at + 2], bytes[at + 3]),
+        term: number(bytes[at + 4], bytes[at + 5], bytes[at + 6], bytes[at + 7]),
+        replacement: number(bytes[at + 8], bytes[at + 9], bytes[at + 10], bytes[at + 11]),
+        room: number(
+            bytes[at + 12],
+            bytes[at + 13],
+            bytes[at + 14],
+            bytes[at + 15],
+        ),
+        first: number(
+            bytes[at + 16],
+            bytes[at + 17],
+            bytes[at + 18],
+            bytes[at + 19],
+        ),
+        second: number(
+            bytes[at + 20],
+            bytes[at + 21],
+            bytes[at + 22],
+            bytes[at + 23],
+        ),
+    }
+}
+
+fn success(value: u64) -> Outcome {
+    Outcome {
+        ok: true,
+        first: value,
+        second: 0,
+    }
+}
+
+fn refusal(number: u8, place: usize) -> Outcome {
+    Outcome {
+        ok: false,
+        first: number as u64,
+        second: place as u64,
+    }
+}
+
+fn formed(term: &[u8]) -> Outcome {
+    match expr::form::form(term) {
+        Formed::Good(_) => success(0),
+        Formed::Refused(number, place) => refusal(number, place),
+    }
+}
+
+fn fragment(term: &[u8]) -> Outcome {
+    match expr::operations::is_test_fragment(term) {
+        Fragment::Is(yes) => success(yes as u64),
+        Fragment::Refused(number, place) => refusal(number, place),
+    }
+}
+
+fn fields(term: &[u8]) -> Outcome {
+    match expr::operations::num_fields(term) {
+        FieldCount::Count(n) => success(n as u64),
+        FieldCount::Refused(number, place) => refusal(number, place),
+    }
+}
+
+fn agree(want: Outcome, got: Outcome) -> bool {
+    if want.ok {
+        return got.ok && want.first == got.first;
+    }
+    !got.ok && want.first == got.first && want.second == got.second
+}
+
+// Whether a case agrees with what the functions answer.
+fn agrees(case: Case, term: &[u8], replacement: &[u8], result: &[u8]) -> bool {
+    let want = Outcome {
+        ok: case.ok,
+        first: case.first,
+        second: case.second,
+    };
+    let operation = case.operation;
+    match operation {
+        1 => agree(want, formed(term)),
+        2 => agree(want, fragment(term)),
+        3 => agree(want, fields(term)),
+        _ => false,
+    }
+}
+
+// How many bytes a successful Substitute writes, and of any other case none.
+fn written(case: Case) -> usize {
+    if case.operation == 4 {
+        if case.ok {
+            return case.first as usize;
+        }
+    }
+    0
+}
+
+// The case at `at`: where the next one begins, and whether it agrees. One that is cut short differs, and is the last.
+fn run(bytes: &[u8], at: usize) -> Ran
+    requires { ⌜ at + 24 ≤ length (now bytes) ⌝ }
+    ensures { λ r. ⌜ (at < r .next) × (r .next ≤ length (now (bytes .entry))) ⌝ }
+{
+    let case = head(bytes, at);
+    let last = Ran {
+        next: bytes.len(),
+        ok: false,
+    };
+    let first = at + 24;
+    let t = case.term as usize;
+    if bytes.len() - first < t {
+        return last;
+    }
+    let second = first + t;
+    let r = case.replacement as usize;
+    if bytes.len() - second < r {
+        return last;
+    }
+    let third = second + r;
+    let w = written(case);
+    if bytes.len() - third < w {
+        return last;
+    }
+    let end = third + w;
+    let ok = agrees(
+        case,
+        &bytes[first..second],
+        &bytes[second..third],
+        &bytes[third..end],
+    );
+    Ran { next: end, ok }
+}
+
+fn differs(case: u64) {
+    io::write_all(STDOUT_FILENO, b"differs: case ");
+    io::print_decimal(STDOUT_FILENO, case);
+    io::write_all(STDOUT_FILENO, b"\n");
+}
+
+// How many of the cases agree, and how many there are.
+fn run_all(bytes: &[u8]) -> Tally {
+    let mut at = 0;
+    let mut agreed: u64 = 0;
+    let mut cases: u64 = 0;
+    while 24 <= bytes.len() - at {
+        let ran = run(bytes, at);
+        if ran.ok {
+            agreed += 1;
+        } else {
+            differs(cases);
+        }
+        cases += 1;
+        at = ran.next;
+    }
+    Tally { agreed, cases }
+}
+
+fn report(agreed: u64, cases: u64) {
+    io::print_decimal(STDOUT_FILENO, agreed);
+    io::write_all(STDOUT_FILENO, b" of ");
+    io::print_decimal(STDOUT_FILENO, cases);
+    io::write_all(STDOUT_FILENO, b" cases agree\n");
+}
+
+fn main() {
+    let path = b"cases";
+    let fd = os::open_read(path);
+    if fd < 0 {
+        os::fail(path);
+        return;
+    }
+    let mut bytes = io::large_buffer();
+    let n = io::read_full(fd, &mut bytes);
+    libc::close(fd);
+    let tally = run_all(&bytes[..n]);
+    report(tally.agreed, tally.cases);
+}
