@@ -16,3 +16,9 @@ pub mod FormSteps
 pub mod Scans
 pub mod FragmentScan
 pub mod FieldScan
+pub mod Replacing
+pub mod Copied
+pub mod SwapSteps
+pub mod SwapRest
+pub mod Refusals
+pub mod SubstituteSteps

@@ -2,10 +2,11 @@
 use mathlib.Core.Path.{_≡_, refl, sym, _∙_}
 use mathlib.Core.Logic.{_↔_}
 use mathlib.Core.List.{List, [], _∷_, _++_, append-assoc, append-nil}
-use Prim.Native.Nat.{ℕ, _+_, max}
+use Prim.Native.Nat.{ℕ, _+_}
 use native.Mathlib.Omega.{arith}
 use Rattle.expr.specs.Terms.{Expr, Plain, Unary, Binary, TestNegation, IfThenElse, Let, LetBitRange, Var, Ranged, op1Kind, op2Kind, records, depth}
 use Rattle.expr.specs.Records.{Record, writeRecord}
+pub use Rattle.expr.specs.Replaced.{encodeAll, recordsAll, depthAll, FitAll}
 use Rattle.expr.specs.Form.{plainRecord, atomRecord, nameRecord, rangedRecord, encode, RecordFits, Fits}
 
 abbrev pub own : Expr → Record
@@ -29,22 +30,6 @@ kids (Let x d b) = d ∷ b ∷ []
 kids (LetBitRange x s e b) = b ∷ []
 kids (Var x) = []
 kids (Ranged w u) = []
-
-abbrev pub encodeAll : List Expr → List ℕ
-encodeAll [] = []
-encodeAll (e ∷ es) = encode e ++ encodeAll es
-
-abbrev pub recordsAll : List Expr → ℕ
-recordsAll [] = 0
-recordsAll (e ∷ es) = records e + recordsAll es
-
-abbrev pub depthAll : List Expr → ℕ
-depthAll [] = 0
-depthAll (e ∷ es) = max (depth e) (depthAll es)
-
-abbrev pub FitAll : List Expr → Type 0
-FitAll [] = Unit {0}
-FitAll (e ∷ es) = Fits e × FitAll es
 
 behind : (w a b : List ℕ) → w ++ a ++ b ≡ w ++ (a ++ (b ++ []))
 behind w a b = simp (append-assoc, append-nil)

@@ -5,3 +5,4 @@ pub mod Records
 pub mod Form
 pub mod Operations
 pub mod Results
+pub mod Replaced

@@ -22,7 +22,7 @@ pub enum Formed {
 }
 
 // How many children a record of this kind has.
-fn arity(kind: u8) -> usize
+pub fn arity(kind: u8) -> usize
     ensures { λ r. ⌜ r ≡ arityOf kind ⌝ }
 {
     match kind {

@@ -2,3 +2,4 @@
 pub mod form;
 pub mod operations;
 pub mod records;
+pub mod replace;
