@@ -1,4 +1,4 @@
-// Runs the cases of the file `cases` through form, is_test_fragment and num_fields, and compares each answer in full: number,
+// Runs the cases of the file `cases` through form, is_test_fragment, num_fields and substitute, and compares each answer in full: number,
 // place, value, every byte of the answer buffer. Prints the index of each case that differs, then how many agree and how many there are.
 // tools/cases.py makes the file and says what a case is.
 ghost use Prim.Native.Nat.{_+_, _≤_, _<_};
@@ -6,7 +6,13 @@ ghost use lib.ListN.{length};
 use expr::form::Formed;
 use expr::operations::FieldCount;
 use expr::operations::Fragment;
+use expr::replace::Substituted;
 use libc::STDOUT_FILENO;
+
+// The longest answer buffer of a case, and what each of its bytes is before a call.
+const ROOM: usize = 4096;
+
+const MARK: u8 = 165;
 
 // The head of a case, its numbers read.
 struct Case {
@@ -120,6 +126,37 @@ fn agree(want: Outcome, got: Outcome) -> bool {
     !got.ok && want.first == got.first && want.second == got.second
 }
 
+// A Substitute with a buffer of `room` bytes. A case with more room than there is differs, for no refusal has the number 0.
+fn substituted(term: &[u8], name: u16, replacement: &[u8], out: &mut [u8], room: usize) -> Outcome {
+    if out.len() < room {
+        return refusal(0, 0);
+    }
+    match expr::replace::substitute(term, name, replacement, &mut out[0..room]) {
+        Substituted::Length(n) => success(n as u64),
+        Substituted::Refused(number, place) => refusal(number, place),
+    }
+}
+
+// Whether the bytes are the result, and marks behind it.
+fn holds(out: &[u8], result: &[u8]) -> bool {
+    let n = result.len();
+    if ROOM < n {
+        return false;
+    }
+    if out.len() < n {
+        return false;
+    }
+    let marks = [MARK; 4096];
+    check::same(&out[0..n], result) && check::same(&out[n..], &marks[n..])
+}
+
+// Whether a Substitute agrees: its answer, and every byte of a buffer that was marked before.
+fn replaced(case: Case, want: Outcome, term: &[u8], replacement: &[u8], result: &[u8]) -> bool {
+    let mut out = [MARK; 4096];
+    let got = substituted(term, case.name, replacement, &mut out, case.room as usize);
+    agree(want, got) && holds(&out, result)
+}
+
 // Whether a case agrees with what the functions answer.
 fn agrees(case: Case, term: &[u8], replacement: &[u8], result: &[u8]) -> bool {
     let want = Outcome {
@@ -132,6 +169,7 @@ fn agrees(case: Case, term: &[u8], replacement: &[u8], result: &[u8]) -> bool {
         1 => agree(want, formed(term)),
         2 => agree(want, fragment(term)),
         3 => agree(want, fields(term)),
+        4 => replaced(case, want, term, replacement, result),
         _ => false,
     }
 }
