@@ -11,3 +11,16 @@ pub mod Sound
 pub mod Limit
 pub mod Room
 pub mod Probes
+pub mod Regions
+pub mod Frames
+pub mod Chains
+pub mod BoundWords
+pub mod Masked
+pub mod BetweenWords
+pub mod UseCores
+pub mod Forest
+pub mod Notes
+pub mod Emitted
+pub mod Turns
+pub mod Outcomes
+pub mod RecordBytes

@@ -6,3 +6,9 @@ pub mod Leaves
 pub mod Negation
 pub mod Desugar
 pub mod Packets
+pub mod Memory
+pub mod LeafWords
+pub mod NegationOutcome
+pub mod NegationRun
+pub mod CoreBytes
+pub mod BindingWords

@@ -1,4 +1,11 @@
 // Desugaring: from a written policy to one-bit tests and assignments.
+mod between;
+mod bindings;
+mod core_bytes;
+mod leaves;
+mod masks;
+mod test_negation;
+
 ghost use mathlib.Core.Path.{_≡_};
 ghost use Rattle.desugar.specs.Bindings.{computeSubrange, subrangeAnswer};
 

@@ -1,0 +1,162 @@
+-- The bytes of a core's records: how many, and that together they are the core's.
+use mathlib.Core.Path.{_≡_, refl, sym, ap, subst, _∙_}
+use mathlib.Core.Bool.{Bool, true, false, not, cond}
+use mathlib.Core.List.{List, [], _∷_, _++_, append-assoc, append-nil}
+use Prim.Native.Nat.{ℕ, zero, suc, _+_, _-_, _*_, _≤_, _<_}
+use native.Mathlib.Nat.{add-zero, add-suc, zero-add}
+use native.Mathlib.Omega.{arith}
+use native.Mathlib.Numerals.{add-one, add-two, add-three}
+use lib.ListN.{length, getD, drop, set, length-append}
+use lib.Seq.{sets, sets-eq, length-sets}
+use borrow.Author.Tests.{eq-eqb, ne-eqb}
+use Rattle.literals.specs.Bits.{bit, bytesOf}
+use Rattle.expr.specs.Terms.{Atom, Zero, One, Top, Dup, End, Assign, Test, Core, leaf, one, two, op1Kind, op2Kind, atomKind, size}
+use Rattle.expr.specs.Records.{mapOf, stands, writeNumber, writeRecord}
+use Rattle.expr.specs.Form.{atomRecord, encodeCore}
+use Rattle.desugar.specs.Memory.{Holds, Lies, words, atomField, atomValue}
+use Rattle.desugar.specs.CoreBytes.{coreRecord, recordBytes, recordsBytes, Put}
+use Rattle.desugar.proofs.Regions.{head, tail, left, right, moved, sets-append, length-words}
+
+pub bit-small : (b : Bool) → bit b ≤ 1
+bit-small true = omega arith
+bit-small false = omega arith
+
+byte-length : (b : Bool) (v : ℕ) → length (cond b (bytesOf 1 v) []) ≡ bit b
+byte-length true v = refl
+byte-length false v = refl
+
+field-length : (b : Bool) (v : ℕ) → length (cond b (bytesOf 4 v) []) ≡ 4 * bit b
+field-length true v = refl
+field-length false v = refl
+
+-- the fields that a core's record lacks are empty
+lacking : (a b c : List ℕ) → a ++ [] ++ b ++ [] ++ [] ++ c ++ [] ++ [] ≡ a ++ b ++ c
+lacking a b c =
+    append-nil (a ++ [] ++ b ++ [] ++ [] ++ c ++ []) ∙ append-nil (a ++ [] ++ b ++ [] ++ [] ++ c)
+    ∙ ap (λ (l : List ℕ). l ++ c) (append-nil (a ++ [] ++ b ++ []) ∙ append-nil (a ++ [] ++ b) ∙ ap (λ (l : List ℕ). l ++ b) (append-nil a))
+
+module _ (k f v : ℕ) where
+  -- a record's bytes: its map, and the numbers that stand
+  pub record-is : writeRecord (coreRecord k f v) ≡ (mapOf (coreRecord k f v) ∷ []) ++ writeNumber 1 k ++ writeNumber 4 f ++ writeNumber 1 v
+  record-is = ap (λ (l : List ℕ). mapOf (coreRecord k f v) ∷ l) (lacking (writeNumber 1 k) (writeNumber 4 f) (writeNumber 1 v))
+
+  pub parts-length : length (writeRecord (coreRecord k f v)) ≡ 1 + length (writeNumber 1 k) + length (writeNumber 4 f) + length (writeNumber 1 v)
+  parts-length =
+      omega
+      (arith, ap length record-is, length-append (writeNumber 1 k ++ writeNumber 4 f) (writeNumber 1 v), length-append (writeNumber 1 k) (writeNumber 4 f))
+
+  pub record-length : length (writeRecord (coreRecord k f v)) ≡ 1 + bit (stands k) + 4 * bit (stands f) + bit (stands v)
+  record-length = omega (arith, parts-length, byte-length (stands k) k, field-length (stands f) f, byte-length (stands v) v)
+
+  pub record-short : length (writeRecord (coreRecord k f v)) ≤ 7
+  record-short = omega (arith, record-length, bit-small (stands k), bit-small (stands f), bit-small (stands v))
+
+pub records-short : (xs : List ℕ) (at n : ℕ) → length (recordsBytes xs at n) ≤ 7 * n
+records-short xs at zero = omega arith
+records-short xs at (suc n) =
+    omega (
+      arith,
+      length-append (recordsBytes xs at n) (recordBytes xs (at + 3 * n)),
+      records-short xs at n,
+      record-short (getD xs (at + 3 * n) 0) (getD xs (at + 3 * n + 1) 0) (getD xs (at + 3 * n + 2) 0),
+    )
+
+-- some records, and then more
+pub records-more : (xs : List ℕ) (at a b : ℕ) → recordsBytes xs at (a + b) ≡ recordsBytes xs at a ++ recordsBytes xs (at + 3 * a) b
+records-more xs at a zero = ap (recordsBytes xs at) (add-zero a) ∙ sym (append-nil (recordsBytes xs at a))
+records-more xs at a (suc b) =
+    ap (recordsBytes xs at) (add-suc a b)
+    ∙ (λ i. records-more xs at a b i ++ recordBytes xs (index i))
+    ∙ append-assoc (recordsBytes xs at a) (recordsBytes xs (at + 3 * a) b) (recordBytes xs (at + 3 * a + 3 * b))
+  where
+    index : at + 3 * (a + b) ≡ at + 3 * a + 3 * b
+    index = omega arith
+
+-- the first records have no more bytes than all
+pub records-below : (xs : List ℕ) (at a b : ℕ) → length (recordsBytes xs at a) ≤ length (recordsBytes xs at (a + b))
+records-below xs at a b = omega (arith, ap length (records-more xs at a b), length-append (recordsBytes xs at a) (recordsBytes xs (at + 3 * a) b))
+
+-- one record, by its three numbers
+one-record : (xs : List ℕ) (at k f v : ℕ) → Holds xs at (k ∷ f ∷ v ∷ []) → recordsBytes xs at 1 ≡ writeRecord (coreRecord k f v)
+one-record xs at k f v h =
+    ap (recordBytes xs) (add-zero at)
+    ∙ (λ i. writeRecord (coreRecord (head h i) (head (tail h) i) (third i)))
+  where
+    third : getD xs (at + 2) 0 ≡ v
+    third = h .each 2 (omega arith)
+
+atom-record : (a : Atom) → writeRecord (coreRecord (atomKind a) (atomField a) (atomValue a)) ≡ writeRecord (atomRecord a)
+atom-record Zero = refl
+atom-record One = refl
+atom-record Top = refl
+atom-record Dup = refl
+atom-record End = refl
+atom-record (Assign f v) = refl
+atom-record (Test f v) = refl
+
+-- the records of a core are its bytes
+pub core-bytes : (c : Core) (xs : List ℕ) (at : ℕ) → Holds xs at (words c) → recordsBytes xs at (size c) ≡ encodeCore c
+core-bytes (leaf a) xs at h = one-record xs at (atomKind a) (atomField a) (atomValue a) h ∙ atom-record a
+core-bytes (one o c) xs at h =
+    records-more xs at 1 (size c)
+    ∙ (λ i. one-record xs at (op1Kind o) 0 0 (left (op1Kind o ∷ 0 ∷ 0 ∷ []) (words c) h) i ++ core-bytes c xs (at + 3) (right (op1Kind o ∷ 0 ∷ 0 ∷ []) (words c) h) i)
+core-bytes (two o a b) xs at h =
+    let own : List ℕ = op2Kind o ∷ 0 ∷ 0 ∷ [] in
+    let behind = right own (words a ++ words b) h in
+    let second = moved (right (words a) (words b) behind) (ap (λ n. at + 3 + n) (length-words a)) refl in
+    records-more xs at (1 + size a) (size b)
+    ∙ (λ i. records-more xs at 1 (size a) i ++ recordsBytes xs (index i) (size b))
+    ∙ (λ i. (one-record xs at (op2Kind o) 0 0 (left own (words a ++ words b) h) i ++ core-bytes a xs (at + 3) (left (words a) (words b) behind) i) ++ core-bytes b xs (at + 3 + 3 * size a) second i)
+  where
+    index : at + 3 * (1 + size a) ≡ at + 3 + 3 * size a
+    index = omega arith
+
+pub lies-bytes : {xs : List ℕ} {at n : ℕ} {c : Core} → Lies xs at n c → recordsBytes xs at n ≡ encodeCore c
+lies-bytes {xs} {at} {n} {c} l = ap (recordsBytes xs at) (l .count) ∙ core-bytes c xs at (l .holds)
+
+-- a run of stores at the front
+pub sets-front : (vs l : List ℕ) → length vs ≤ length l → sets l 0 vs ≡ vs ++ drop (length vs) l
+sets-front vs l h = sets-eq vs l 0 (omega arith) ∙ ap (λ n. vs ++ drop n l) (zero-add (length vs))
+
+-- ## Steps of the functions
+
+pub number-none : (n v : ℕ) → v ≡ 0 → writeNumber n v ≡ []
+number-none n v e = ap (λ b. cond (not b) (bytesOf n v) []) (eq-eqb v 0 e)
+
+pub number-some : (n v : ℕ) → (v ≡ 0 → ⊥) → writeNumber n v ≡ bytesOf n v
+number-some n v e = ap (λ b. cond (not b) (bytesOf n v) []) (ne-eqb v 0 e)
+
+-- four bytes, one behind the other
+pub four : (l : List ℕ) (i a b c d : ℕ) → set (set (set (set l i a) (i + 1) b) (i + 2) c) (i + 3) d ≡ sets l i (a ∷ b ∷ c ∷ d ∷ [])
+four l i a b c d = rw (add-one, add-two, add-three)
+
+-- the same bytes
+pub put-as : {us vs l l′ : List ℕ} {i r : ℕ} → us ≡ vs → Put us l i l′ r → Put vs l i l′ r
+put-as {us} {vs} {l} {l′} {i} {r} e p = subst (λ (bs : List ℕ). Put bs l i l′ r) e p
+
+-- bytes behind bytes
+pub put-then : {us vs l l′ l″ : List ℕ} {i j r : ℕ} → Put us l i l′ j → Put vs l′ j l″ r → Put (us ++ vs) l i l″ r
+put-then {us} {vs} {l} {l′} {l″} {i} {j} {r} p q = record {
+  written = q .written ∙ (λ k. sets (p .written k) (p .next k) vs) ∙ sets-append l i us vs;
+  next = omega (arith, p .next, q .next, length-append us vs);
+}
+
+pub put-length : {us l l′ : List ℕ} {i r : ℕ} → Put us l i l′ r → length l′ ≡ length l
+put-length {us} {l} {l′} {i} p = ap length (p .written) ∙ length-sets l i us
+
+module _ (xs : List ℕ) (at n : ℕ) where
+  -- one record more
+  pub records-next : recordsBytes xs at (n + 1) ≡ recordsBytes xs at n ++ recordBytes xs (at + 3 * n)
+  records-next = ap (recordsBytes xs at) (add-one n)
+
+  pub length-next : length (recordsBytes xs at (n + 1)) ≡ length (recordsBytes xs at n) + length (recordBytes xs (at + 3 * n))
+  length-next = ap length records-next ∙ length-append (recordsBytes xs at n) (recordBytes xs (at + 3 * n))
+
+-- a record has room where all of them have
+pub records-within : (xs : List ℕ) (at j n : ℕ) → j < n → length (recordsBytes xs at j) + length (recordBytes xs (at + 3 * j)) ≤ length (recordsBytes xs at n)
+records-within xs at j n l =
+    let all : j + 1 + (n - (j + 1)) ≡ n = omega arith in
+    omega (arith, length-next xs at j, records-below xs at (j + 1) (n - (j + 1)), ap (λ m. length (recordsBytes xs at m)) all)
+
+pub lies-inside : {xs : List ℕ} {at n : ℕ} {c : Core} → Lies xs at n c → at + 3 * n ≤ length xs
+lies-inside {xs} {at} {n} {c} l = omega (arith, l .holds .fits, length-words c, l .count)

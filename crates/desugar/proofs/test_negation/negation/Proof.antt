@@ -1,0 +1,98 @@
+-- `desugar::test_negation::negation` meets its contract.
+use Prim.Native.Nat.{ℕ, _*_}
+use mathlib.Core.Path.{sym, ap, _∙_}
+use native.Mathlib.Omega.{arith}
+use borrow.Author.Tests.{not-true, not-false}
+use borrow.Author.Needs.{needs}
+use Rattle.desugar.proofs.Regions.{kept-all, kept-then, kept-less}
+use Rattle.desugar.proofs.Outcomes.{no-test, large, fits, size-is, noted-after}
+use Rattle.desugar.proofs.test_negation.negation.Statement.{statement}
+use Rattle.desugar.proofs.test_negation.negation.Tie as tie
+
+is-test-requires : tie.Need-is-test-requires
+is-test-requires c κs = search needs
+
+same-length : tie.Need-same-length
+same-length c = search needs
+
+returns : tie.Need-returns
+returns c = (kept-all _ _, λ t h. no-test (sym (c .before .is-test .ensures t h) ∙ not-true _ (c .if1 .taken)))
+
+measure-requires : tie.Need-measure-requires
+measure-requires c κs =
+    let p = c .before .before .before .before .before .pre in
+    ((p .1 .0, p .1 .1, sym (c .before .before .is-test .ensures (p .1 .0) (p .1 .1)) ∙ not-false _ (c .before .if1 .left)), omega (arith, p .0))
+
+-- From here on m is the place after `measure`, and s the start.
+negate-requires : tie.Need-negate-requires
+negate-requires c κs =
+    let m = c .before .before .before in
+    let s = m .before .before .before .before .before .before in
+    let noted = noted-after (s .pre .0) (m .before .before .before .is-test .ensures) (not-false _ (m .before .before .if1 .left)) (m .measure .ensures .0) (m .measure .ensures .1) in
+    (rw (m .measure .ensures .0 .long) (s .pre .0), (s .pre .1 .0, noted (s .pre .1 .0) (s .pre .1 .1)))
+
+enum-known-negated : tie.Need-enum-known-negated
+enum-known-negated c = search needs
+
+wide-requires : tie.Need-wide-requires
+wide-requires c κs = search needs
+
+mul-move-down : tie.Need-mul-move-down
+mul-move-down c = search needs
+
+move-down-requires : tie.Need-move-down-requires
+move-down-requires c κs =
+    let m = c .before .before .before .before .before .before .before .before .before .before .before in
+    let s = m .before .before .before .before .before .before in
+    let noted = noted-after (s .pre .0) (m .before .before .before .is-test .ensures) (not-false _ (m .before .before .if1 .left)) (m .measure .ensures .0) (m .measure .ensures .1) in
+    let size = size-is (c .before .before .before .before .before .before .before .negate .ensures .1 (s .pre .1 .0) (noted (s .pre .1 .0) (s .pre .1 .1))) (c .before .before .before .negated .given .1) in
+    (omega (arith, s .pre .0), omega (arith, size, s .pre .0, c .before .wide .ensures, m .measure .ensures .0 .long, c .before .before .before .before .before .before .before .negate .ensures .0 .long))
+
+enum-told : tie.Need-enum-told
+enum-told c = search needs
+
+same-length-2 : tie.Need-same-length-2
+same-length-2 c = search needs
+
+returns-2 : tie.Need-returns-2
+returns-2 c =
+    let m = c .before .before .before .before .before .before .before .before .before .before .before .before .before .before in
+    let s = m .before .before .before .before .before .before in
+    let noted = noted-after (s .pre .0) (m .before .before .before .is-test .ensures) (not-false _ (m .before .before .if1 .left)) (m .measure .ensures .0) (m .measure .ensures .1) in
+    let negate = c .before .before .before .before .before .before .before .before .before .before .negate .ensures in
+    let down = c .before .before .move-down .ensures in (
+      kept-then (kept-less (omega (arith, s .pre .0)) (m .measure .ensures .0)) (kept-then (kept-less (omega (arith, s .pre .0)) (negate .0)) (down .0)),
+      λ t h. fits (noted t h .test) (negate .1 t (noted t h)) (c .before .before .before .before .before .before .negated .given .1) (λ ys e. down .1 ys (e ∙ ap (λ (k : ℕ). 3 * k) (sym (c .before .before .before .before .wide .ensures)))),
+    )
+
+same-length-3 : tie.Need-same-length-3
+same-length-3 c = search needs
+
+returns-3 : tie.Need-returns-3
+returns-3 c =
+    let m = c .before .before .before .before .before .before .before .before in
+    let s = m .before .before .before .before .before .before in
+    let noted = noted-after (s .pre .0) (m .before .before .before .is-test .ensures) (not-false _ (m .before .before .if1 .left)) (m .measure .ensures .0) (m .measure .ensures .1) in
+    let negate = c .before .before .before .before .negate .ensures in (
+      kept-then (kept-less (omega (arith, s .pre .0)) (m .measure .ensures .0)) (kept-less (omega (arith, s .pre .0)) (negate .0)),
+      λ t h. large (noted t h .test) (negate .1 t (noted t h)) (c .enum-told .given .1),
+    )
+
+pub negation-spec : {M : Type 1} → statement M
+negation-spec =
+    tie.close
+    (tie.spec
+    is-test-requires
+    same-length
+    returns
+    measure-requires
+    negate-requires
+    enum-known-negated
+    wide-requires
+    mul-move-down
+    move-down-requires
+    enum-told
+    same-length-2
+    returns-2
+    same-length-3
+    returns-3)

@@ -1,0 +1,30 @@
+-- The bytes of a core that lies in work memory: the words of the contracts of src/core_bytes.rt.
+use mathlib.Core.{Path._≡_, List.List, List.[], List._++_}
+use Prim.Native.Nat.{ℕ, zero, suc, _+_, _*_, _≤_}
+use lib.{ListN.length, ListN.getD, ListN.drop, Seq.sets}
+use Rattle.expr.specs.{Terms.Core, Records.Record, Records.writeRecord, Form.encodeCore}
+use Rattle.desugar.specs.{Memory.Lies}
+
+-- a core's record: its kind, field and value
+abbrev pub coreRecord : ℕ → ℕ → ℕ → Record
+coreRecord k f v = record { kind = k; name = 0; start = f; end = 0; pattern = 0; number = v; litA = []; litB = [] }
+
+-- the bytes of the record at index i
+abbrev pub recordBytes : List ℕ → ℕ → List ℕ
+recordBytes xs i = writeRecord (coreRecord (getD xs i 0) (getD xs (i + 1) 0) (getD xs (i + 2) 0))
+
+-- the bytes of the n records from index at on
+abbrev pub recordsBytes : List ℕ → ℕ → ℕ → List ℕ
+recordsBytes xs at zero = []
+recordsBytes xs at (suc n) = recordsBytes xs at n ++ recordBytes xs (at + 3 * n)
+
+-- bytes were written at an index, and r is the index behind them
+pub record Put (bytes out : List ℕ) (to : ℕ) (out′ : List ℕ) (r : ℕ) : Type 0 where
+  pub written : out′ ≡ sets out to bytes
+  pub next : r ≡ to + length bytes
+
+-- a core lies there, and the buffer has room for its bytes
+pub record Writable (xs : List ℕ) (at n : ℕ) (out : List ℕ) : Type 0 where
+  pub core : Core
+  pub lies : Lies xs at n core
+  pub room : length (encodeCore core) ≤ length out

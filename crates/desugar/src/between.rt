@@ -1,0 +1,105 @@
+// The core of an IpRange: the values from one literal to another, both padded to the range's width.
+ghost use mathlib.Core.Path.{_≡_};
+ghost use mathlib.Core.Bool.{true, false};
+ghost use Prim.Native.Nat.{_+_};
+ghost use lib.Dec.{eqb};
+ghost use lib.ListN.{take};
+ghost use lib.Seq.{sets};
+ghost use Rattle.literals.specs.Bits.{unpack, valueOf};
+ghost use Rattle.expr.specs.Terms.{Intersect, two};
+ghost use Rattle.desugar.specs.Leaves.{between, bound};
+ghost use Rattle.desugar.specs.Memory.{words};
+ghost use Rattle.desugar.specs.LeafWords.{RangeRoom, Widths, betweenSize, boundSize, stretch};
+use literals::Order;
+
+// Whether two literals have one value.
+fn same_value(low: &[u8], low_bits: usize, high: &[u8], high_bits: usize, width: usize) -> bool
+    requires { ⌜ Widths «low_bits» «high_bits» width ⌝ }
+    ensures { λ r. ⌜ r ≡ eqb (valueOf (take «low_bits» (unpack (now (low .entry))))) (valueOf (take «high_bits» (unpack (now (high .entry))))) ⌝ }
+{
+    match literals::compare(low, low_bits, high, high_bits, width) {
+        Order::Below => false,
+        Order::Equal => true,
+        Order::Above => false,
+    }
+}
+
+// How many records the core of a range of values has.
+pub fn range_size(low: &[u8], low_bits: usize, high: &[u8], high_bits: usize, width: usize) -> u64
+    requires { ⌜ Widths «low_bits» «high_bits» width ⌝ }
+    ensures { λ r. ⌜ r ≡ betweenSize (stretch (take «low_bits» (unpack (now (low .entry)))) 0 width) (stretch (take «high_bits» (unpack (now (high .entry)))) 0 width) ⌝ }
+{
+    if same_value(low, low_bits, high, high_bits, width) {
+        return crate::leaves::chain_size(width as u64);
+    }
+    let from_zero = literals::is_zero(low, low_bits);
+    let to_highest = literals::is_highest(high, high_bits, width);
+    if from_zero {
+        if to_highest {
+            return 1;
+        }
+        return crate::leaves::bound_size(high, high_bits, width, true);
+    }
+    let lower = crate::leaves::bound_size(low, low_bits, width, false);
+    if to_highest {
+        return lower;
+    }
+    1 + lower + crate::leaves::bound_size(high, high_bits, width, true)
+}
+
+// Both bounds.
+fn write_both(
+    work: &mut [u32],
+    at: usize,
+    start: u32,
+    low: &[u8],
+    low_bits: usize,
+    high: &[u8],
+    high_bits: usize,
+    width: usize,
+)
+    requires { ⌜ RangeRoom (now work) at (1 + boundSize false (stretch (take «low_bits» (unpack (now low))) 0 width) + boundSize true (stretch (take «high_bits» (unpack (now high))) 0 width)) «start» width × Widths «low_bits» «high_bits» width ⌝ }
+    ensures { λ r. ⌜ now (work .exit) ≡ sets (now (work .entry)) at (words (two Intersect
+        (bound false «start» (stretch (take «low_bits» (unpack (now (low .entry)))) 0 width)) (bound true «start» (stretch (take «high_bits» (unpack (now (high .entry)))) 0 width)))) ⌝ }
+{
+    let size = crate::leaves::bound_size(low, low_bits, width, false) as usize;
+    crate::leaves::write_record(work, at, 8, 0, 0);
+    crate::leaves::write_bound(work, at + 3, start, low, low_bits, width, false);
+    crate::leaves::write_bound(work, at + 3 + 3 * size, start, high, high_bits, width, true);
+}
+
+// The core of a range of values.
+pub fn write_range(
+    work: &mut [u32],
+    at: usize,
+    start: u32,
+    low: &[u8],
+    low_bits: usize,
+    high: &[u8],
+    high_bits: usize,
+    width: usize,
+)
+    requires { ⌜ RangeRoom (now work) at (betweenSize (stretch (take «low_bits» (unpack (now low))) 0 width) (stretch (take «high_bits» (unpack (now high))) 0 width)) «start» width × Widths «low_bits» «high_bits» width ⌝ }
+    ensures { λ r. ⌜ now (work .exit) ≡ sets (now (work .entry)) at (words (between «start»
+        (stretch (take «low_bits» (unpack (now (low .entry)))) 0 width) (stretch (take «high_bits» (unpack (now (high .entry)))) 0 width))) ⌝ }
+{
+    if same_value(low, low_bits, high, high_bits, width) {
+        crate::leaves::write_chain(work, at, 8, 6, start, low, low_bits, 0, width);
+        return;
+    }
+    let from_zero = literals::is_zero(low, low_bits);
+    let to_highest = literals::is_highest(high, high_bits, width);
+    if from_zero {
+        if to_highest {
+            crate::leaves::write_record(work, at, 1, 0, 0);
+            return;
+        }
+        crate::leaves::write_bound(work, at, start, high, high_bits, width, true);
+        return;
+    }
+    if to_highest {
+        crate::leaves::write_bound(work, at, start, low, low_bits, width, false);
+        return;
+    }
+    write_both(work, at, start, low, low_bits, high, high_bits, width);
+}

@@ -1,0 +1,51 @@
+// Test negation of a core that lies in work memory: is it a test, two passes over it, and the result in its place.
+mod measured;
+mod moved;
+mod negated;
+mod tested;
+mod written;
+
+pub use tested::is_test;
+ghost use lib.ListN.{length};
+ghost use Rattle.expr.specs.Terms.{Core};
+ghost use Rattle.desugar.specs.Memory.{Kept, Lies};
+ghost use Rattle.desugar.specs.NegationOutcome.{Layout, Negates};
+
+// The size of the negation, or why there is none.
+pub enum Outcome {
+    Size(u32),
+    TooLarge,
+    NotTest,
+}
+
+// Negates the core of n records at `at` in its place, if it is a test and the result has at most `limit` records.
+// The regions from `notes` on are room for the passes.
+pub fn negation(
+    work: &mut [u32],
+    at: usize,
+    n: usize,
+    notes: usize,
+    modes: usize,
+    out: usize,
+    limit: usize,
+) -> Outcome
+    requires { ⌜ Layout (length (now work)) at n notes modes out limit ⌝ }
+    requires { ⌜ ((c : Core) × Lies (now work) at n c) ⌝ }
+    ensures { λ _. ⌜ Kept at (now (work .entry)) (now (work .exit)) ⌝ }
+    ensures { λ r. ⌜ ((c : Core) → Lies (now (work .entry)) at n c → Negates (now (work .exit)) c at limit r) ⌝ }
+{
+    let test = tested::is_test(work, at, n);
+    if !test {
+        return Outcome::NotTest;
+    }
+    measured::measure(work, at, n, notes);
+    let negated = negated::negate(work, at, n, notes, modes, out, limit);
+    match negated {
+        negated::Negated::Size(size) => {
+            let count = measured::wide(size);
+            moved::move_down(work, out, at, 3 * count);
+            Outcome::Size(size)
+        }
+        negated::Negated::TooLarge => Outcome::TooLarge,
+    }
+}
