@@ -11,8 +11,8 @@ use Rattle.literals.specs.Bits.{Bits, bit}
 use Rattle.expr.specs.Terms.{Core, Intersect, One, Test, Union, Zero, leaf, size}
 use Rattle.desugar.specs.LeafWords.{Differs, boundSize, chainSize, difference, differenceSize, differencesSize, linked, stretch, term, tops}
 use Rattle.desugar.specs.Leaves.{bound, chain, differences, highFirst}
-use Rattle.desugar.specs.Memory.{words}
-use Rattle.desugar.proofs.Chains.{length-linked, length-stretch, link-last, link-more, linked-append, size-chain, sizes, sizes-append}
+use Rattle.desugar.specs.Memory.{words, sizeAll}
+use Rattle.desugar.proofs.Chains.{length-linked, length-stretch, link-last, link-more, linked-append, size-chain, sizes-append}
 use Rattle.desugar.proofs.Regions.{sets-append}
 
 -- ## Sizes
@@ -21,7 +21,7 @@ length-high : (s : ℕ) (a : Bits) → length (highFirst s a) ≡ length a
 length-high s [] = refl
 length-high s (b ∷ a) = omega (arith, length-append (highFirst (suc s) a) (leaf (Test s b) ∷ []), length-high (suc s) a)
 
-sizes-high : (s : ℕ) (a : Bits) → sizes (highFirst s a) ≡ length a
+sizes-high : (s : ℕ) (a : Bits) → sizeAll (highFirst s a) ≡ length a
 sizes-high s [] = refl
 sizes-high s (b ∷ a) = omega (arith, sizes-append (highFirst (suc s) a) (leaf (Test s b) ∷ []), sizes-high (suc s) a)
 
@@ -29,7 +29,7 @@ size-exact : (s : ℕ) (a : Bits) → size (chain Intersect One (highFirst s a))
 size-exact s a = omega (arith, size-chain Intersect One (highFirst s a), length-high s a, sizes-high s a)
 
 -- the terms and their operators
-size-differences : (d : Bool) (s : ℕ) (a : Bits) → sizes (differences d s a) + length (differences d s a) ≡ differencesSize d a
+size-differences : (d : Bool) (s : ℕ) (a : Bits) → sizeAll (differences d s a) + length (differences d s a) ≡ differencesSize d a
 size-differences d s [] = refl
 size-differences d s (b ∷ a) =
     omega (arith, sizes-append (differences d (suc s) a) (own (Bool·beq b d)), length-append (differences d (suc s) a) (own (Bool·beq b d)), size-differences d (suc s) a, size-own (Bool·beq b d))
@@ -40,7 +40,7 @@ size-differences d s (b ∷ a) =
     own : Bool → List Core
     own x = cond x (chain Intersect One tests ∷ []) []
 
-    size-own : (x : Bool) → sizes (own x) + length (own x) ≡ cond x (2 * length a + 2) 0
+    size-own : (x : Bool) → sizeAll (own x) + length (own x) ≡ cond x (2 * length a + 2) 0
     size-own true = omega (arith, size-exact s (not d ∷ a))
     size-own false = refl
 

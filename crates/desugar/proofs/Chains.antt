@@ -10,11 +10,11 @@ use lib.ListN.{drop, drop-of-length-le, getD, length, length-append, replicate}
 use lib.Seq.{drop-cons, sets}
 use Rattle.literals.proofs.Bits.{length-pad}
 use Rattle.literals.specs.Bits.{Bits, bit, pad}
-use Rattle.expr.specs.Terms.{Atom, Core, One, Op2, leaf, one, op2Kind, size, two}
+use Rattle.expr.specs.Terms.{Atom, Core, One, Op2, leaf, op2Kind, size}
 use Rattle.desugar.specs.LeafWords.{Kinds, chainSize, linked, stretch}
 use Rattle.desugar.specs.Leaves.{chain, eachBit}
-use Rattle.desugar.specs.Memory.{words}
-use Rattle.desugar.proofs.Regions.{length-words, sets-append}
+use Rattle.desugar.specs.Memory.{sizeAll, words}
+use Rattle.desugar.proofs.Regions.{size-pos, length-words, sets-append}
 
 -- ## Memory
 
@@ -36,29 +36,19 @@ words-chain o a (b ∷ (d ∷ cs)) c =
     ap (λ (l : List ℕ). op2Kind o ∷ 0 ∷ 0 ∷ (words b ++ l)) (words-chain o a (d ∷ cs) c)
     ∙ ap (λ (l : List ℕ). op2Kind o ∷ 0 ∷ 0 ∷ l) (sym (append-assoc (words b) (linked o (d ∷ cs)) (words c)))
 
--- how many records operands have together
-abbrev pub sizes : List Core → ℕ
-sizes [] = 0
-sizes (c ∷ cs) = size c + sizes cs
-
-pub length-linked : (o : Op2) (cs : List Core) → length (linked o cs) ≡ 3 * (sizes cs + length cs)
+pub length-linked : (o : Op2) (cs : List Core) → length (linked o cs) ≡ 3 * (sizeAll cs + length cs)
 length-linked o [] = refl
 length-linked o (c ∷ cs) = omega (arith, length-append (words c) (linked o cs), length-words c, length-linked o cs)
 
-pub sizes-append : (cs ds : List Core) → sizes (cs ++ ds) ≡ sizes cs + sizes ds
+pub sizes-append : (cs ds : List Core) → sizeAll (cs ++ ds) ≡ sizeAll cs + sizeAll ds
 sizes-append [] ds = omega arith
 sizes-append (c ∷ cs) ds = omega (arith, sizes-append cs ds)
 
-size-some : (c : Core) → 1 ≤ size c
-size-some (leaf a) = omega arith
-size-some (one o c) = omega arith
-size-some (two o a b) = omega arith
-
 -- the operands, and an operator for each but the last
-pub size-chain : (o : Op2) (a : Atom) (cs : List Core) → size (chain o a cs) ≡ 1 + (sizes cs + length cs - 2)
+pub size-chain : (o : Op2) (a : Atom) (cs : List Core) → size (chain o a cs) ≡ 1 + (sizeAll cs + length cs - 2)
 size-chain o a [] = omega arith
-size-chain o a (c ∷ []) = omega (arith, size-some c)
-size-chain o a (c ∷ (d ∷ cs)) = omega (arith, size-chain o a (d ∷ cs), size-some d)
+size-chain o a (c ∷ []) = omega (arith, size-pos c)
+size-chain o a (c ∷ (d ∷ cs)) = omega (arith, size-chain o a (d ∷ cs), size-pos d)
 
 module _ (o : Op2) (cs : List Core) (c : Core) (l : List ℕ) (at : ℕ) {to : ℕ} (e : to ≡ at + length (linked o cs)) where
   -- one operand more behind its operator
@@ -125,7 +115,7 @@ module _ (f : ℕ → Bool → Atom) where
   length-each-bit s [] = refl
   length-each-bit s (b ∷ a) = ap suc (length-each-bit (suc s) a)
 
-  pub sizes-each-bit : (s : ℕ) (a : Bits) → sizes (eachBit f s a) ≡ length a
+  pub sizes-each-bit : (s : ℕ) (a : Bits) → sizeAll (eachBit f s a) ≡ length a
   sizes-each-bit s [] = refl
   sizes-each-bit s (b ∷ a) = omega (arith, sizes-each-bit (suc s) a)
 

@@ -8,16 +8,11 @@ use native.Mathlib.Omega.{arith}
 use lib.ListN.{length, getD, length-append}
 use Rattle.literals.proofs.Logic.{and-right}
 use Rattle.expr.specs.Terms.{Atom, Op1, Op2, Core, leaf, one, two, Zero, One, Top, Dup, End, Assign, Test, Union, Intersect, Xor, Difference, Sequence, LtlUntil, Complement, Star, LtlNext, atomKind, op1Kind, op2Kind, testKind, size}
-use Rattle.desugar.specs.Memory.{words, Holds, Lies}
-use Rattle.desugar.specs.NegationRun.{coreKind, coreField, coreValue, operands, wordsAll, sizeAll, allTest, opened, forestAt, note, notesOf, notesAll}
-use Rattle.desugar.proofs.Regions.{moved, head, tail, length-words}
+use Rattle.desugar.specs.Memory.{words, Holds, Lies, wordsAll, sizeAll}
+use Rattle.desugar.specs.NegationRun.{coreKind, coreField, coreValue, operands, allTest, opened, forestAt, note, notesOf, notesAll}
+use Rattle.desugar.proofs.Regions.{size-pos, moved, head, tail, length-words}
 
 -- ## Lengths and sizes
-
-pub size-pos : (c : Core) → 1 ≤ size c
-size-pos (leaf p) = omega arith
-size-pos (one o a) = omega arith
-size-pos (two o a b) = omega arith
 
 pub notes-long : (c : Core) → length (notesOf c) ≡ size c
 notes-long (leaf p) = refl

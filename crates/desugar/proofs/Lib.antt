@@ -22,5 +22,7 @@ pub mod Forest
 pub mod Notes
 pub mod Emitted
 pub mod Turns
+pub mod TurnSteps
+pub mod PassEnds
 pub mod Outcomes
 pub mod RecordBytes

@@ -12,8 +12,8 @@ use Rattle.literals.specs.Bits.{Bits, bit}
 use Rattle.expr.specs.Terms.{Core, Intersect, One, Test, leaf, size}
 use Rattle.desugar.specs.LeafWords.{Tested, chainSize, clear, linked, stretch, tested, trim}
 use Rattle.desugar.specs.Leaves.{chain, maskedTests}
-use Rattle.desugar.specs.Memory.{words}
-use Rattle.desugar.proofs.Chains.{length-linked, length-stretch, link-last, linked-append, size-chain, sizes, stretch-more, suc-shift}
+use Rattle.desugar.specs.Memory.{words, sizeAll}
+use Rattle.desugar.proofs.Chains.{length-linked, length-stretch, link-last, linked-append, size-chain, stretch-more, suc-shift}
 use Rattle.desugar.proofs.Regions.{sets-append}
 
 -- ## How many they are
@@ -50,7 +50,7 @@ length-masked s (b ∷ a) [] h = absurd (omega arith)
 length-masked s (b ∷ a) (true ∷ m) h = omega (arith, length-masked (suc s) a m (omega arith))
 length-masked s (b ∷ a) (false ∷ m) h = omega (arith, length-masked (suc s) a m (omega arith))
 
-sizes-masked : (s : ℕ) (a m : Bits) → sizes (maskedTests s a m) ≡ length (maskedTests s a m)
+sizes-masked : (s : ℕ) (a m : Bits) → sizeAll (maskedTests s a m) ≡ length (maskedTests s a m)
 sizes-masked s [] m = refl
 sizes-masked s (b ∷ a) [] = refl
 sizes-masked s (b ∷ a) (true ∷ m) = sizes-masked (suc s) a m

@@ -5,23 +5,20 @@ use mathlib.Core.List.{List, [], _∷_, _++_, append-nil}
 use Prim.Native.Nat.{ℕ, suc, _+_, _*_, _-_, _/_, _%_, _^_, _≤_, _<_}
 use native.Mathlib.Omega.{arith}
 use lib.Dec.{eqb}
-use borrow.Author.Tests.{lt-ltb, le-ltb}
 use lib.ListN.{length, getD, set}
 use lib.Seq.{getD-set-same}
+use borrow.Author.Tests.{lt-ltb, le-ltb}
 use Rattle.literals.specs.Bits.{bit}
 use Rattle.literals.proofs.Logic.{and-left}
+use Rattle.literals.proofs.Bits.{bit-small}
 use Rattle.expr.specs.Terms.{Atom, Op2, Core, leaf, one, two, Zero, One, Top, Dup, End, Assign, Test, Union, Intersect, Xor, Difference, Sequence, LtlUntil, atomKind, op2Kind, size}
 use Rattle.desugar.specs.Negation.{isTest, isOne, again}
-use Rattle.desugar.specs.Memory.{Holds, Kept, Lies}
-use Rattle.desugar.specs.NegationRun.{coreKind, operands, sizeAll, allTest, opened, forestAt, oneAgain, note, notesOf, notesAll, leftAt, rightAt, leafNote, pairNote, noteAt, TwoNotes, CanNote}
-use Rattle.desugar.proofs.Regions.{moved, right, head, cons, over, same-at, kept-then, kept-sets}
-use Rattle.desugar.proofs.Forest.{At, at, notes-open, notes-long, notes-all-long, size-at, size-pos, tests-at, leaf-kind, op-kind}
+use Rattle.desugar.specs.Memory.{Holds, Kept, Lies, sizeAll}
+use Rattle.desugar.specs.NegationRun.{coreKind, operands, allTest, opened, forestAt, oneAgain, note, notesOf, notesAll, leftAt, rightAt, leafNote, pairNote, noteAt, TwoNotes, CanNote}
+use Rattle.desugar.proofs.Regions.{moved, right, head, cons, over, same-at, kept-then, kept-sets, size-pos}
+use Rattle.desugar.proofs.Forest.{At, at, notes-open, notes-long, notes-all-long, size-at, tests-at, leaf-kind, op-kind}
 
 -- ## A note's two parts
-
-pub bit-small : (b : Bool) → bit b ≤ 1
-bit-small true = omega arith
-bit-small false = omega arith
 
 pub half : (c : Core) → note c / 2 ≡ size c
 half c = omega (arith, bit-small (oneAgain c))

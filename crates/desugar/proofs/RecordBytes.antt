@@ -10,16 +10,13 @@ use lib.ListN.{length, getD, drop, set, length-append}
 use lib.Seq.{sets, sets-eq, length-sets}
 use borrow.Author.Tests.{eq-eqb, ne-eqb}
 use Rattle.literals.specs.Bits.{bit, bytesOf}
+use Rattle.literals.proofs.Bits.{bit-small}
 use Rattle.expr.specs.Terms.{Atom, Zero, One, Top, Dup, End, Assign, Test, Core, leaf, one, two, op1Kind, op2Kind, atomKind, size}
 use Rattle.expr.specs.Records.{mapOf, stands, writeNumber, writeRecord}
 use Rattle.expr.specs.Form.{atomRecord, encodeCore}
 use Rattle.desugar.specs.Memory.{Holds, Lies, words, atomField, atomValue}
 use Rattle.desugar.specs.CoreBytes.{coreRecord, recordBytes, recordsBytes, Put}
 use Rattle.desugar.proofs.Regions.{head, tail, left, right, moved, sets-append, length-words}
-
-pub bit-small : (b : Bool) → bit b ≤ 1
-bit-small true = omega arith
-bit-small false = omega arith
 
 byte-length : (b : Bool) (v : ℕ) → length (cond b (bytesOf 1 v) []) ≡ bit b
 byte-length true v = refl

@@ -156,6 +156,11 @@ copied-all xs₀ xs from to i count low done fits c ys long h = record {
 
 -- ## Cores
 
+pub size-pos : (c : Core) → 1 ≤ size c
+size-pos (leaf a) = omega arith
+size-pos (one o c) = omega arith
+size-pos (two o a b) = omega arith
+
 -- three numbers for each record
 pub length-words : (c : Core) → length (words c) ≡ 3 * size c
 length-words (leaf a) = refl

@@ -1,23 +1,22 @@
 -- A turn of the forward pass.
 use mathlib.Core.Path.{_≡_, refl, sym, ap, _∙_}
-use mathlib.Core.Bool.{Bool, true, false, cond, _&&_, false≢true}
-use mathlib.Core.List.{List, [], _∷_, _++_, append-nil}
+use mathlib.Core.Bool.{Bool, true, false, cond, false≢true}
+use mathlib.Core.List.{List, [], _∷_, _++_}
 use Prim.Native.Nat.{ℕ, suc, _+_, _*_, _-_, _≤_, _<_}
 use native.Mathlib.Omega.{arith}
 use lib.Dec.{eqb}
-use lib.ListN.{length, getD, set, length-append, length-set}
+use lib.ListN.{length, getD, length-append}
 use lib.Seq.{sets, length-sets}
-use borrow.Author.Tests.{le-leb, lt-leb}
 use Rattle.literals.proofs.Logic.{and-left}
+use Rattle.literals.proofs.Bits.{bit-small}
 use Rattle.expr.specs.Terms.{Atom, Core, leaf, one, two, Zero, One, Top, Dup, End, Assign, Test, Union, Intersect, Xor, Difference, Sequence, LtlUntil, Complement, Star, LtlNext, atomKind, size}
-use Rattle.desugar.specs.declared.test_negation.negated.Negated.the-variants.{Size, TooLarge}
 use Rattle.desugar.specs.Negation.{isTest, negate}
-use Rattle.desugar.specs.Memory.{atomValue, words, Holds, Kept}
+use Rattle.desugar.specs.Memory.{atomValue, words, Holds, Kept, wordsAll, sizeAll}
 use Rattle.desugar.specs.NegationOutcome.{Layout}
-use Rattle.desugar.specs.NegationRun.{coreKind, coreField, coreValue, operands, wordsAll, sizeAll, allTest, oneAgain, notesOf, notesAll, TwoNotes, Noted, Mode, negating, keeping, redoing, skipping, code, dropAt, countOf, ownWords, leftCode, rightCode, Task, task, emitAll, coresOf, codesOf, Run, Stepped, within, Result}
-use Rattle.desugar.proofs.Regions.{moved, head, tail, joined, under, over, stored, none, kept-holds, kept-sets, kept-then, length-words}
-use Rattle.desugar.proofs.Forest.{Spot, spot, tests-open, words-all-long, notes-all-long, notes-long, size-open, size-pos, all-long, notes-open, leaf-kind, op-kind}
-use Rattle.desugar.proofs.Notes.{Pair, pair, odd-is, bit-small, two-notes}
+use Rattle.desugar.specs.NegationRun.{coreKind, coreField, coreValue, operands, allTest, oneAgain, notesAll, TwoNotes, Mode, negating, keeping, redoing, skipping, code, dropAt, countOf, ownWords, leftCode, rightCode, Task, task, emitAll, coresOf, codesOf, Run}
+use Rattle.desugar.proofs.Regions.{moved, head, tail, joined, under, over, stored, kept-holds, kept-sets, kept-then, length-words, size-pos}
+use Rattle.desugar.proofs.Forest.{Spot, spot, tests-open, words-all-long, notes-all-long, size-open, all-long, notes-open, leaf-kind, op-kind}
+use Rattle.desugar.proofs.Notes.{Pair, pair, odd-is, two-notes}
 use Rattle.desugar.proofs.Emitted.{dropped, tasksOf, own, countIn, left-code, right-code, leftMode, rightMode, goal-open, cores-open, codes-long, cores-long}
 
 -- ## Numbers
@@ -271,130 +270,3 @@ module _ {xs : List ℕ} {t : Core} {at n notes modes out limit j top made : ℕ
           (moved pushed-stack refl (rw (w .tasks-are, w .left-is, w .right-is)))
           (omega (arith, deep, r .depth, ap (λ (ts : List Task). length (ts ++ r .rest)) (w .tasks-are)))
           (over (top - 1) codes (omega (arith, deep, r .depth, lay .out-at)) put-written)
-
--- ## A turn as the code makes it: d is what is dropped and k how many records are written, both found in memory
-
-module _ {xs : List ℕ} {t : Core} {at n notes modes out limit j top made : ℕ} (lay : Layout (length xs) at n notes modes out limit) (l : j < n) (room : made ≤ limit) (run : Run xs t at n notes modes out j top made) where
-  abbrev r : Now xs t at n notes modes out j top made
-  r = now l run
-
-  f : Found lay l r
-  f = found lay l r
-
-  pub turn-sides : getD xs (at + 3 * j) 0 ≡ 11 → TwoNotes xs (notes + j)
-  turn-sides e = f .sides (sym (f .kind) ∙ e)
-
-  pub turn-top : top < length xs
-  turn-top = f .top-in
-
-  pub turn-here : at + 3 * j + 3 ≤ length xs
-  turn-here = f .here-in
-
-  pub turn-value : getD xs (at + 3 * j + 2) 0 ≤ 1
-  turn-value = f .value-small
-
-  module _ {d k : ℕ} (is-d : d ≡ dropAt xs (notes + j) (getD xs top 0) (getD xs (at + 3 * j) 0)) (is-k : k ≡ countOf (getD xs top 0) (getD xs (at + 3 * j) 0) d) where
-    d-is : d ≡ dropped (r .mode) (r .core)
-    d-is = is-d ∙ (λ i. dropAt xs (notes + j) (f .mode i) (f .kind i)) ∙ f .drop
-
-    k-is : k ≡ countIn (r .mode) (r .core)
-    k-is = is-k ∙ (λ i. countOf (f .mode i) (f .kind i) (d-is i))
-
-    pub k-small : k ≤ 3
-    k-small = omega (arith, is-k, count-small (getD xs top 0) (getD xs (at + 3 * j) 0) d)
-
-    pub stop : limit - made < k → Stepped xs t at n notes modes out limit (j + 1) top (made + k)
-    stop h = record {
-      on = λ b. absurd (omega arith);
-      over = λ b. omega (arith, k-is, over-limit lay l r);
-    }
-
-    -- the memory after the records are written
-    abbrev pub wrote : List ℕ
-    wrote = sets xs (out + 3 * made) (ownWords k (getD xs top 0) (getD xs (at + 3 * j) 0) (getD xs (at + 3 * j + 1) 0) (getD xs (at + 3 * j + 2) 0))
-
-    wrote-is : wrote ≡ sets xs (out + 3 * made) (own (r .mode) (r .core))
-    wrote-is = λ i. sets xs (out + 3 * made) (ownWords (k-is i) (f .mode i) (f .kind i) (f .field i) (f .value i))
-
-    pub wrote-kept : Kept modes xs wrote
-    wrote-kept = kept-sets modes xs (out + 3 * made) (ownWords k (getD xs top 0) (getD xs (at + 3 * j) 0) (getD xs (at + 3 * j + 1) 0) (getD xs (at + 3 * j + 2) 0)) (omega (arith, lay .out-at))
-
-    module _ (h : k ≤ limit - made) where
-      in-limit : made + countIn (r .mode) (r .core) ≤ limit
-      in-limit = omega (arith, k-is)
-
-      pub leaf-turn : getD xs (at + 3 * j) 0 < 7 → Stepped wrote t at n notes modes out limit (j + 1) (top + 1) (made + k)
-      leaf-turn g = record {
-        on = λ b. rw (wrote-is, k-is) (leaf-run lay l r in-limit (omega (arith, f .kind)));
-        over = λ b. absurd (omega arith);
-      }
-
-      module _ (g : 7 ≤ getD xs (at + 3 * j) 0) where
-        op : 7 ≤ coreKind (r .core)
-        op = omega (arith, f .kind)
-
-        pub deep-turn : modes < top
-        deep-turn = deep lay l r in-limit op
-
-        abbrev pub both : List ℕ
-        both = set (set wrote (top - 1) (leftCode (getD xs top 0) (getD xs (at + 3 * j) 0) d)) top (rightCode (getD xs top 0) (getD xs (at + 3 * j) 0) d)
-
-        next-top : top ≡ suc (top - 1)
-        next-top = omega (arith, deep-turn)
-
-        both-is : both ≡ pushed lay l r in-limit op
-        both-is = λ i. set (set (wrote-is i) (top - 1) (leftCode (f .mode i) (f .kind i) (d-is i))) (next-top i) (rightCode (f .mode i) (f .kind i) (d-is i))
-
-        pub both-kept : Kept modes xs both
-        both-kept = rw both-is (pushed-kept lay l r in-limit op)
-
-        pub op-turn : Stepped both t at n notes modes out limit (j + 1) (top - 1) (made + k)
-        op-turn = record {
-          on = λ b. rw (both-is, k-is) (op-run lay l r in-limit op);
-          over = λ b. absurd (omega arith);
-        }
-
--- ## The first record, and past the last
-
-pub begin : {xs : List ℕ} {t : Core} {at n notes modes out limit : ℕ} → Layout (length xs) at n notes modes out limit → Noted xs at n notes t → Run (set xs (modes + n - 1) 0) t at n notes modes out 0 (modes + n - 1) 0
-begin {xs} {t} {at} {n} {notes} {modes} {out} lay h =
-    let some : 1 ≤ n = omega (arith, h .lies .count, size-pos t) in
-    record {
-      plan = task negating t ∷ [];
-      test = ap (λ (b : Bool). b && true) (h .test);
-      records = moved (under (modes + n - 1) (0 ∷ []) (omega (arith, length-words t, h .lies .count, lay .notes-at, lay .modes-at)) (h .lies .holds)) (omega arith) (sym (append-nil (words t)));
-      noted = moved (under (modes + n - 1) (0 ∷ []) (omega (arith, notes-long t, h .lies .count, lay .modes-at)) (h .noted)) (omega arith) (sym (append-nil (notesOf t)));
-      stack = stored xs (modes + n - 1) (0 ∷ []) (omega (arith, lay .out-at, lay .room));
-      depth = omega arith;
-      left = omega (arith, h .lies .count);
-      done = [];
-      written = none (set xs (modes + n - 1) 0) out (omega (arith, length-set xs (modes + n - 1) 0, lay .room));
-      long = refl;
-      goal = append-nil (words (negate t));
-    }
-
-no-plan : (plan : List Task) → sizeAll (coresOf plan) ≡ 0 → emitAll plan ≡ []
-no-plan [] e = refl
-no-plan (task m c ∷ ts) e = absurd (omega (arith, size-pos c))
-
-module _ {xs : List ℕ} {t : Core} {at n notes modes out j top made : ℕ} (limit : ℕ) (room : made ≤ limit) (l : n ≤ j) (r : Run xs t at n notes modes out j top made) where
-  all-done : r .done ≡ words (negate t)
-  all-done = sym (append-nil (r .done)) ∙ ap (λ (e : List ℕ). r .done ++ e) (sym (no-plan (r .plan) (omega (arith, r .left)))) ∙ r .goal
-
-  made-is : made ≡ size (negate t)
-  made-is = omega (arith, r .long, ap length all-done, length-words (negate t))
-
-  pub ended : Result xs t out limit (Size made)
-  ended = record {
-    is = rw made-is (sym (ap (λ (b : Bool). within b (size (negate t))) (le-leb (size (negate t)) limit (omega (arith, made-is)))));
-    holds = λ h. moved (r .written) refl all-done;
-  }
-
-pub too-large : {xs : List ℕ} {t : Core} {out limit : ℕ} → limit < size (negate t) → Result xs t out limit TooLarge
-too-large {xs} {t} {out} {limit} h = record {
-  is = sym (ap (λ (b : Bool). within b (size (negate t))) (lt-leb (size (negate t)) limit h));
-  holds = λ b. absurd (omega arith);
-}
-
-pub some-records : {xs : List ℕ} {at n notes : ℕ} (t : Core) → Noted xs at n notes t → 1 ≤ n
-some-records t h = omega (arith, h .lies .count, size-pos t)

@@ -29,6 +29,15 @@ words (leaf a) = atomKind a ∷ atomField a ∷ atomValue a ∷ []
 words (one o c) = op1Kind o ∷ 0 ∷ 0 ∷ words c
 words (two o a b) = op2Kind o ∷ 0 ∷ 0 ∷ (words a ++ words b)
 
+-- of cores one behind the other
+abbrev pub wordsAll : List Core → List ℕ
+wordsAll [] = []
+wordsAll (c ∷ cs) = words c ++ wordsAll cs
+
+abbrev pub sizeAll : List Core → ℕ
+sizeAll [] = 0
+sizeAll (c ∷ cs) = size c + sizeAll cs
+
 -- xs has the numbers ys from index i on
 pub record Holds (xs : List ℕ) (i : ℕ) (ys : List ℕ) : Type 0 where
   pub fits : i + length ys ≤ length xs

@@ -6,7 +6,7 @@ use Rattle.literals.specs.{Bits.bit}
 use Rattle.expr.specs.{Terms.Core, Terms.leaf, Terms.one, Terms.two, Terms.atomKind, Terms.op1Kind, Terms.op2Kind, Terms.size}
 use Rattle.desugar.specs.declared.test_negation.negated.Negated.{Negated}
 use Rattle.desugar.specs.declared.test_negation.negated.Negated.the-variants.{Size, TooLarge}
-use Rattle.desugar.specs.{Negation.isTest, Negation.isOne, Negation.again, Negation.negate, Memory.atomField, Memory.atomValue, Memory.words, Memory.Holds, Memory.Lies}
+use Rattle.desugar.specs.{Negation.isTest, Negation.isOne, Negation.again, Negation.negate, Memory.atomField, Memory.atomValue, Memory.words, Memory.wordsAll, Memory.sizeAll, Memory.Holds, Memory.Lies}
 
 -- ## Forests: the first record of the first core goes, and its operands come
 
@@ -29,14 +29,6 @@ abbrev pub operands : Core → List Core
 operands (leaf a) = []
 operands (one o c) = c ∷ []
 operands (two o a b) = a ∷ b ∷ []
-
-abbrev pub wordsAll : List Core → List ℕ
-wordsAll [] = []
-wordsAll (c ∷ cs) = words c ++ wordsAll cs
-
-abbrev pub sizeAll : List Core → ℕ
-sizeAll [] = 0
-sizeAll (c ∷ cs) = size c + sizeAll cs
 
 abbrev pub allTest : List Core → Bool
 allTest [] = true

@@ -63,7 +63,7 @@ fn write_both(
         (bound false «start» (stretch (take «low_bits» (unpack (now (low .entry)))) 0 width)) (bound true «start» (stretch (take «high_bits» (unpack (now (high .entry)))) 0 width)))) ⌝ }
 {
     let size = crate::leaves::bound_size(low, low_bits, width, false) as usize;
-    crate::leaves::write_record(work, at, 8, 0, 0);
+    crate::memory::write_record(work, at, 8, 0, 0);
     crate::leaves::write_bound(work, at + 3, start, low, low_bits, width, false);
     crate::leaves::write_bound(work, at + 3 + 3 * size, start, high, high_bits, width, true);
 }
@@ -91,7 +91,7 @@ pub fn write_range(
     let to_highest = literals::is_highest(high, high_bits, width);
     if from_zero {
         if to_highest {
-            crate::leaves::write_record(work, at, 1, 0, 0);
+            crate::memory::write_record(work, at, 1, 0, 0);
             return;
         }
         crate::leaves::write_bound(work, at, start, high, high_bits, width, true);

@@ -10,6 +10,7 @@ ghost use Rattle.expr.specs.Terms.{Core};
 ghost use Rattle.desugar.specs.Bindings.{Env, variable, range, lookupVariable, lookupAlias};
 ghost use Rattle.desugar.specs.Memory.{Kept, Lies};
 ghost use Rattle.desugar.specs.BindingWords.{AnyBound, Bound, Ends, FrameRoom, VariableTold, aliasRange};
+use crate::memory::wide;
 
 // The innermost binding's frame ends at `last`; 0 where there is none.
 pub struct Bindings {
@@ -26,13 +27,6 @@ pub enum Variable {
 pub enum Alias {
     Range(u32, u32),
     Unbound,
-}
-
-// A number of the work memory, to be used as an offset.
-fn offset(x: u32) -> usize
-    ensures { λ r. ⌜ r ≡ x ⌝ }
-{
-    x as usize
 }
 
 // Whether the frame that ends at `last` is of a kind and a name.
@@ -112,7 +106,7 @@ impl Bindings {
             if is_frame(work, last, kind, name) {
                 return last;
             }
-            last = offset(work[last - 1]);
+            last = wide(work[last - 1]);
         }
         0
     }
@@ -126,8 +120,8 @@ impl Bindings {
         if last == 0 {
             return Variable::Unbound;
         }
-        let at = offset(work[last - 3]);
-        let count = offset(work[last - 2]);
+        let at = wide(work[last - 3]);
+        let count = wide(work[last - 2]);
         Variable::At(at, count)
     }
 

@@ -11,6 +11,7 @@ ghost use Rattle.desugar.specs.Leaves.{bound, chain, eachBit};
 ghost use Rattle.desugar.specs.Rules.{maxRangeBits};
 ghost use Rattle.desugar.specs.Memory.{words};
 ghost use Rattle.desugar.specs.LeafWords.{Kinds, ChainRoom, BoundRoom, Differs, chainSize, boundSize, differenceSize, stretch, term};
+use crate::memory::write_record;
 
 // How many records a chain of atoms has.
 pub fn chain_size(atoms: u64) -> u64
@@ -31,16 +32,6 @@ pub(crate) fn value(b: bool) -> u32
         return 1;
     }
     0
-}
-
-// A record of the core.
-pub(crate) fn write_record(work: &mut [u32], at: usize, kind: u32, field: u32, value: u32)
-    requires { ⌜ at + 3 ≤ length (now work) ⌝ }
-    ensures { λ r. ⌜ now (work .exit) ≡ sets (now (work .entry)) at (kind ∷ field ∷ value ∷ []) ⌝ }
-{
-    work[at] = kind;
-    work[at + 1] = field;
-    work[at + 2] = value;
 }
 
 // An operator's record, and its first operand's: an atom.

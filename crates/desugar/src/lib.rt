@@ -4,6 +4,7 @@ mod bindings;
 mod core_bytes;
 mod leaves;
 mod masks;
+mod memory;
 mod test_negation;
 
 ghost use mathlib.Core.Path.{_≡_};

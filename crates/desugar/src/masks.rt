@@ -86,7 +86,7 @@ pub fn write_masked(
 {
     let end = trimmed(mask, mask_bits, width);
     if end == 0 {
-        crate::leaves::write_record(work, at, 1, 0, 0);
+        crate::memory::write_record(work, at, 1, 0, 0);
         return;
     }
     let last = end - 1;
@@ -97,5 +97,5 @@ pub fn write_masked(
         i += 1;
     }
     let b = literals::literal_bit(address, address_bits, last);
-    crate::leaves::write_record(work, to, 6, start + last as u32, crate::leaves::value(b));
+    crate::memory::write_record(work, to, 6, start + last as u32, crate::leaves::value(b));
 }

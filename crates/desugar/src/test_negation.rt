@@ -42,7 +42,7 @@ pub fn negation(
     let negated = negated::negate(work, at, n, notes, modes, out, limit);
     match negated {
         negated::Negated::Size(size) => {
-            let count = measured::wide(size);
+            let count = crate::memory::wide(size);
             moved::move_down(work, out, at, 3 * count);
             Outcome::Size(size)
         }

@@ -11,6 +11,10 @@ use lib.Seq.{getD-append-add}
 use native.Mathlib.Decide.{decLt}
 use Rattle.literals.specs.Bits.{Bits, bit, valueOf, bitAt, bitsOf, pad, unpack}
 
+pub bit-small : (b : Bool) → bit b ≤ 1
+bit-small true = omega arith
+bit-small false = omega arith
+
 -- ## Padding
 
 pub length-pad : (n : ℕ) (a : Bits) → length a ≤ n → length (pad n a) ≡ n

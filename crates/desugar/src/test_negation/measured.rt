@@ -7,13 +7,7 @@ ghost use Rattle.expr.specs.Terms.{Core};
 ghost use Rattle.desugar.specs.Memory.{Holds, Kept, Lies};
 ghost use Rattle.desugar.specs.Negation.{isTest};
 ghost use Rattle.desugar.specs.NegationRun.{notesOf, leafNote, pairNote, noteAt, rightAt, TwoNotes, CanNote};
-
-// A number of the work memory, to be used as an offset.
-pub(crate) fn wide(x: u32) -> usize
-    ensures { λ r. ⌜ r ≡ x ⌝ }
-{
-    x as usize
-}
+use crate::memory::wide;
 
 // The note of the second operand of the record whose note stands at `note`.
 pub(crate) fn right_note(work: &[u32], note: usize) -> u32

@@ -5,6 +5,7 @@ ghost use mathlib.Core.List.{[], _∷_};
 ghost use lib.ListN.{length, getD, set};
 ghost use lib.Seq.{sets};
 ghost use Rattle.desugar.specs.NegationRun.{TwoNotes, dropAt, countOf, newKind, newValue, ownWords, leftCode, rightCode};
+use crate::memory::write_record;
 
 // Which operand of a Sequence is dropped where it is desugared again: 1 the left, 2 the right, 0 none.
 pub(crate) fn dropped(work: &[u32], note: usize, mode: u32, kind: u32) -> u32
@@ -75,16 +76,6 @@ fn new_value(mode: u32, kind: u32, value: u32) -> u32
     1 - value
 }
 
-// Writes one record.
-fn put(work: &mut [u32], to: usize, kind: u32, field: u32, value: u32)
-    requires { ⌜ to + 3 ≤ length (now work) ⌝ }
-    ensures { λ _. ⌜ now (work .exit) ≡ sets (now (work .entry)) to (kind ∷ field ∷ value ∷ []) ⌝ }
-{
-    work[to] = kind;
-    work[to + 1] = field;
-    work[to + 2] = value;
-}
-
 // Writes the `count` records that the record at `here` asks for.
 pub(crate) fn emit(work: &mut [u32], here: usize, mode: u32, count: usize, to: usize)
     requires { ⌜ (here + 3 ≤ length (now work)) × (getD (now work) (here + 2) 0 ≤ 1) × (to + (count + count + count) ≤ length (now work)) × (count ≤ 3) ⌝ }
@@ -97,12 +88,12 @@ pub(crate) fn emit(work: &mut [u32], here: usize, mode: u32, count: usize, to: u
     let field = work[here + 1];
     let value = work[here + 2];
     if count == 3 {
-        put(work, to, 10, 0, 0);
-        put(work, to + 3, 1, 0, 0);
-        put(work, to + 6, kind, field, value);
+        write_record(work, to, 10, 0, 0);
+        write_record(work, to + 3, 1, 0, 0);
+        write_record(work, to + 6, kind, field, value);
         return;
     }
-    put(
+    write_record(
         work,
         to,
         new_kind(mode, kind),

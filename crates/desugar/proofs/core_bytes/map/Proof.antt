@@ -2,7 +2,7 @@
 use native.Mathlib.Omega.{arith}
 use borrow.Author.Needs.{needs}
 use Rattle.expr.specs.Records.{stands}
-use Rattle.desugar.proofs.RecordBytes.{bit-small}
+use Rattle.literals.proofs.Bits.{bit-small}
 use Rattle.desugar.proofs.core_bytes.map.Statement.{statement}
 use Rattle.desugar.proofs.core_bytes.map.Tie as tie
 

@@ -39,29 +39,29 @@ returns c =
           p .gives (l .last) (ends-here (a .work .now) (a .kind) (a .name) (l .last) some (p .env) (p .bound) (sym (c .before .is-frame .ensures) ∙ c .if1 .taken)),
     )
 
-sub-offset : tie.Need-sub-offset Inv-loop μ-loop
-sub-offset c = search needs
+sub-wide : tie.Need-sub-wide Inv-loop μ-loop
+sub-wide c = search needs
 
-mul-offset : tie.Need-mul-offset Inv-loop μ-loop
-mul-offset c =
+mul-wide : tie.Need-mul-wide Inv-loop μ-loop
+mul-wide c =
     let l = c .before .before .before .loop in
     let f = frame-there (c .before .before .before .before .before .args .work .now) (l .last) (l .inv .1 .env) (l .inv .1 .bound) (omega arith) in
     omega (arith, f .0, f .1)
 
-shared-slice-read-offset : tie.Need-shared-slice-read-offset Inv-loop μ-loop
-shared-slice-read-offset c =
+shared-slice-read-wide : tie.Need-shared-slice-read-wide Inv-loop μ-loop
+shared-slice-read-wide c =
     let l = c .before .before .before .before .loop in
     let f = frame-there (c .before .before .before .before .before .before .args .work .now) (l .last) (l .inv .1 .env) (l .inv .1 .bound) (omega arith) in
     omega (arith, f .0, f .1)
 
-offset-requires : tie.Need-offset-requires Inv-loop μ-loop
-offset-requires c κs = search needs
+wide-requires : tie.Need-wide-requires Inv-loop μ-loop
+wide-requires c κs = search needs
 
 loop-less : tie.Need-loop-less Inv-loop μ-loop
 loop-less c =
     let l = c .before .before .before .before .before .loop in
     let f = frame-there (c .before .before .before .before .before .before .before .args .work .now) (l .last) (l .inv .1 .env) (l .inv .1 .bound) (omega arith) in
-    omega (arith, f .2, c .offset .ensures)
+    omega (arith, f .2, c .wide .ensures)
 
 loop-again : tie.Need-loop-again Inv-loop μ-loop
 loop-again c =
@@ -70,7 +70,7 @@ loop-again c =
     let l = c .before .before .before .before .before .loop in
     let some : 0 < l .last = omega arith in
     let f = frame-there xs (l .last) (l .inv .1 .env) (l .inv .1 .bound) some in
-    let next : c .offset .result ≡ getD xs (l .last - 1) 0 = c .offset .ensures in
+    let next : c .wide .result ≡ getD xs (l .last - 1) 0 = c .wide .ensures in
     let other = sym (c .before .before .before .is-frame .ensures) ∙ c .before .before .if1 .left in
     let q = passed-more xs (a .kind) (a .name) (l .last) some (l .inv .1 .env) (l .inv .1 .bound) other in (
       omega (arith, l .inv .0, f .2, next),
@@ -96,10 +96,10 @@ find-spec =
     loop-holds
     is-frame-requires
     returns
-    sub-offset
-    mul-offset
-    shared-slice-read-offset
-    offset-requires
+    sub-wide
+    mul-wide
+    shared-slice-read-wide
+    wide-requires
     loop-less
     loop-again
     returns-2)

@@ -13,58 +13,58 @@ find-requires c κs = search needs
 returns : tie.Need-returns
 returns c = λ env b. variable-unbound (c .before .before .before .args .work .now) (c .before .before .before .args .name) (c .before .find .result) (lookupVariable env (c .before .before .before .args .name)) (c .before .before .before .args .self .last) (c .before .find .ensures .1 env b .variables refl) (c .if1 .taken)
 
-sub-offset : tie.Need-sub-offset
-sub-offset c =
+sub-wide : tie.Need-sub-wide
+sub-wide c =
     let a = c .before .before .before .args in
     let p = c .before .before .before .pre in
     let f = variable-there (a .work .now) (a .name) (c .before .find .result) (lookupVariable (p .env) (a .name)) (c .before .find .ensures .1 (p .env) (p .bound) .variables refl) (c .if1 .left) in
     omega (arith, f .0)
 
-mul-offset : tie.Need-mul-offset
-mul-offset c =
+mul-wide : tie.Need-mul-wide
+mul-wide c =
     let a = c .before .before .before .args in
     let p = c .before .before .before .pre in
     let f = variable-there (a .work .now) (a .name) (c .before .find .result) (lookupVariable (p .env) (a .name)) (c .before .find .ensures .1 (p .env) (p .bound) .variables refl) (c .if1 .left) in
     omega (arith, f .0, f .1)
 
-shared-slice-read-offset : tie.Need-shared-slice-read-offset
-shared-slice-read-offset c =
+shared-slice-read-wide : tie.Need-shared-slice-read-wide
+shared-slice-read-wide c =
     let a = c .before .before .before .before .args in
     let p = c .before .before .before .before .pre in
     let f = variable-there (a .work .now) (a .name) (c .before .before .find .result) (lookupVariable (p .env) (a .name)) (c .before .before .find .ensures .1 (p .env) (p .bound) .variables refl) (c .before .if1 .left) in
     omega (arith, f .0, f .1)
 
-offset-requires : tie.Need-offset-requires
-offset-requires c κs = search needs
+wide-requires : tie.Need-wide-requires
+wide-requires c κs = search needs
 
-sub-offset-2 : tie.Need-sub-offset-2
-sub-offset-2 c =
+sub-wide-2 : tie.Need-sub-wide-2
+sub-wide-2 c =
     let a = c .before .before .before .before .before .args in
     let p = c .before .before .before .before .before .pre in
     let f = variable-there (a .work .now) (a .name) (c .before .before .before .find .result) (lookupVariable (p .env) (a .name)) (c .before .before .before .find .ensures .1 (p .env) (p .bound) .variables refl) (c .before .before .if1 .left) in
     omega (arith, f .0, f .1)
 
-mul-offset-2 : tie.Need-mul-offset-2
-mul-offset-2 c =
+mul-wide-2 : tie.Need-mul-wide-2
+mul-wide-2 c =
     let a = c .before .before .before .before .before .args in
     let p = c .before .before .before .before .before .pre in
     let f = variable-there (a .work .now) (a .name) (c .before .before .before .find .result) (lookupVariable (p .env) (a .name)) (c .before .before .before .find .ensures .1 (p .env) (p .bound) .variables refl) (c .before .before .if1 .left) in
     omega (arith, f .0, f .1)
 
-shared-slice-read-offset-2 : tie.Need-shared-slice-read-offset-2
-shared-slice-read-offset-2 c =
+shared-slice-read-wide-2 : tie.Need-shared-slice-read-wide-2
+shared-slice-read-wide-2 c =
     let a = c .before .before .before .before .before .before .args in
     let p = c .before .before .before .before .before .before .pre in
     let f = variable-there (a .work .now) (a .name) (c .before .before .before .before .find .result) (lookupVariable (p .env) (a .name)) (c .before .before .before .before .find .ensures .1 (p .env) (p .bound) .variables refl) (c .before .before .before .if1 .left) in
     omega (arith, f .0, f .1)
 
-offset-requires-2 : tie.Need-offset-requires-2
-offset-requires-2 c κs = search needs
+wide-requires-2 : tie.Need-wide-requires-2
+wide-requires-2 c κs = search needs
 
 returns-2 : tie.Need-returns-2
 returns-2 c =
     let a = c .before .before .before .before .before .before .before .args in
-    λ env b. variable-told (a .work .now) (a .name) (c .before .before .before .before .before .find .result) (lookupVariable env (a .name)) (a .self .last) (c .before .before .before .before .before .find .ensures .1 env b .variables refl) (c .before .before .before .before .if1 .left) (c .before .before .before .before .before .find .ensures .0) (c .before .before .offset .result) (c .offset2 .result) (c .before .before .offset .ensures) (c .offset2 .ensures)
+    λ env b. variable-told (a .work .now) (a .name) (c .before .before .before .before .before .find .result) (lookupVariable env (a .name)) (a .self .last) (c .before .before .before .before .before .find .ensures .1 env b .variables refl) (c .before .before .before .before .if1 .left) (c .before .before .before .before .before .find .ensures .0) (c .before .before .wide .result) (c .wide2 .result) (c .before .before .wide .ensures) (c .wide2 .ensures)
 
 pub lookup-variable-spec : {M : Type 1} → statement M
 lookup-variable-spec =
@@ -72,12 +72,12 @@ lookup-variable-spec =
     (tie.spec
     find-requires
     returns
-    sub-offset
-    mul-offset
-    shared-slice-read-offset
-    offset-requires
-    sub-offset-2
-    mul-offset-2
-    shared-slice-read-offset-2
-    offset-requires-2
+    sub-wide
+    mul-wide
+    shared-slice-read-wide
+    wide-requires
+    sub-wide-2
+    mul-wide-2
+    shared-slice-read-wide-2
+    wide-requires-2
     returns-2)

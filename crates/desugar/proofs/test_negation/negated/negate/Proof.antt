@@ -6,7 +6,7 @@ use native.Mathlib.Omega.{arith}
 use lib.ListN.{length-set}
 use borrow.Author.Needs.{needs}
 use Rattle.desugar.proofs.Regions.{kept-then, kept-sets}
-use Rattle.desugar.proofs.Turns.{begin, some-records}
+use Rattle.desugar.proofs.PassEnds.{begin, some-records}
 use Rattle.desugar.proofs.test_negation.negated.negate.Statement.{statement}
 use Rattle.desugar.proofs.test_negation.negated.negate.Tie as tie
 

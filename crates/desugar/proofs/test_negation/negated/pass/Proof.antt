@@ -7,7 +7,7 @@ use Rattle.expr.specs.Terms.{Core}
 use Rattle.desugar.specs.Memory.{Kept}
 use Rattle.desugar.specs.NegationRun.{Run}
 use Rattle.desugar.proofs.Regions.{kept-all, kept-then}
-use Rattle.desugar.proofs.Turns.{ended, too-large}
+use Rattle.desugar.proofs.PassEnds.{ended, too-large}
 use Rattle.desugar.proofs.test_negation.negated.pass.Statement.{statement}
 use Rattle.desugar.proofs.test_negation.negated.pass.Tie as tie
 

@@ -2,7 +2,7 @@
 use native.Mathlib.Omega.{arith}
 use borrow.Author.Needs.{needs}
 use Rattle.desugar.proofs.Regions.{kept-all}
-use Rattle.desugar.proofs.Turns.{turn-sides, turn-top, turn-here, turn-value, k-small, stop, wrote-kept, leaf-turn, deep-turn, both-kept, op-turn}
+use Rattle.desugar.proofs.TurnSteps.{turn-sides, turn-top, turn-here, turn-value, k-small, stop, wrote-kept, leaf-turn, deep-turn, both-kept, op-turn}
 use Rattle.desugar.proofs.test_negation.negated.turn.Statement.{statement}
 use Rattle.desugar.proofs.test_negation.negated.turn.Tie as tie
 

@@ -32,20 +32,20 @@ mul-value c = search needs
 slice-read-value : tie.Need-slice-read-value
 slice-read-value c = search needs
 
-put-requires : tie.Need-put-requires
-put-requires c κs = search needs
+write-record-requires : tie.Need-write-record-requires
+write-record-requires c κs = search needs
 
-add-put : tie.Need-add-put
-add-put c = search needs
+add-write-record : tie.Need-add-write-record
+add-write-record c = search needs
 
-put-requires-2 : tie.Need-put-requires-2
-put-requires-2 c κs = search needs
+write-record-requires-2 : tie.Need-write-record-requires-2
+write-record-requires-2 c κs = search needs
 
-add-put-2 : tie.Need-add-put-2
-add-put-2 c = search needs
+add-write-record-2 : tie.Need-add-write-record-2
+add-write-record-2 c = search needs
 
-put-requires-3 : tie.Need-put-requires-3
-put-requires-3 c κs = search needs
+write-record-requires-3 : tie.Need-write-record-requires-3
+write-record-requires-3 c κs = search needs
 
 same-length : tie.Need-same-length
 same-length c = search needs
@@ -55,7 +55,7 @@ returns-2 c =
     let third = c .before .before in
     let second = third .before .before .before .before in
     let first = second .before .before .before .before in
-    rw (first .before .before .if2 .taken, third .put3 .ensures, second .put2 .ensures, first .put .ensures, add-three, add-six)
+    rw (first .before .before .if2 .taken, third .write-record3 .ensures, second .write-record2 .ensures, first .write-record .ensures, add-three, add-six)
 
 new-kind-requires : tie.Need-new-kind-requires
 new-kind-requires c κs = search needs
@@ -63,8 +63,8 @@ new-kind-requires c κs = search needs
 new-value-requires : tie.Need-new-value-requires
 new-value-requires c κs = search needs
 
-put-requires-4 : tie.Need-put-requires-4
-put-requires-4 c κs = search needs
+write-record-requires-4 : tie.Need-write-record-requires-4
+write-record-requires-4 c κs = search needs
 
 same-length-2 : tie.Need-same-length-2
 same-length-2 c = search needs
@@ -72,7 +72,7 @@ same-length-2 c = search needs
 returns-3 : tie.Need-returns-3
 returns-3 c =
     let k = c .before .before .before .before in
-    rw (c .before .before .put4 .ensures, k .new-kind .ensures, c .before .before .before .new-value .ensures, ne-eqb _ _ (k .before .before .before .before .before .before .if1 .left), ne-eqb _ _ (k .before .before .if2 .left))
+    rw (c .before .before .write-record4 .ensures, k .new-kind .ensures, c .before .before .before .new-value .ensures, ne-eqb _ _ (k .before .before .before .before .before .before .if1 .left), ne-eqb _ _ (k .before .before .if2 .left))
 
 pub emit-spec : {M : Type 1} → statement M
 emit-spec =
@@ -87,15 +87,15 @@ emit-spec =
     add-value
     mul-value
     slice-read-value
-    put-requires
-    add-put
-    put-requires-2
-    add-put-2
-    put-requires-3
+    write-record-requires
+    add-write-record
+    write-record-requires-2
+    add-write-record-2
+    write-record-requires-3
     same-length
     returns-2
     new-kind-requires
     new-value-requires
-    put-requires-4
+    write-record-requires-4
     same-length-2
     returns-3)

@@ -1,10 +1,10 @@
--- `desugar::test_negation::written::put` meets its contract.
-use native.Mathlib.Omega.{arith}
+-- `desugar::memory::write_record` meets its contract.
 use native.Mathlib.Numerals.{add-one, add-two}
-use lib.ListN.{length-set}
+use native.Mathlib.Omega.{arith}
 use borrow.Author.Needs.{needs}
-use Rattle.desugar.proofs.test_negation.written.put.Statement.{statement}
-use Rattle.desugar.proofs.test_negation.written.put.Tie as tie
+use lib.ListN.{length-set}
+use Rattle.desugar.proofs.memory.write_record.Statement.{statement}
+use Rattle.desugar.proofs.memory.write_record.Tie as tie
 
 mul-work : tie.Need-mul-work
 mul-work c = search needs
@@ -36,8 +36,8 @@ same-length c = search needs
 returns : tie.Need-returns
 returns c = rw (add-one, add-two)
 
-pub put-spec : {M : Type 1} → statement M
-put-spec =
+pub write-record-spec : {M : Type 1} → statement M
+write-record-spec =
     tie.close
     (tie.spec
     mul-work
