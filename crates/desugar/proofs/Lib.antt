@@ -10,6 +10,7 @@ pub mod Patterns
 pub mod Sound
 pub mod Limit
 pub mod Room
+pub mod RefusalPlaces
 pub mod Probes
 pub mod Regions
 pub mod Frames
@@ -18,6 +19,10 @@ pub mod BoundWords
 pub mod Masked
 pub mod BetweenWords
 pub mod UseCores
+pub mod RuleLaws
+pub mod LeafKinds
+pub mod RangedCores
+pub mod LeafSteps
 pub mod Forest
 pub mod Notes
 pub mod Emitted
@@ -25,4 +30,11 @@ pub mod Turns
 pub mod TurnSteps
 pub mod PassEnds
 pub mod Outcomes
+pub mod Closing
 pub mod RecordBytes
+pub mod WalkLaws
+pub mod WalkSteps
+pub mod PairSteps
+pub mod IfSteps
+pub mod Dispatch
+pub mod BytesSteps

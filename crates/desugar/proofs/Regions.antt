@@ -1,5 +1,6 @@
 -- Laws of regions: a region taken apart and put together, and what stores leave of it.
 use mathlib.Core.Path.{_≡_, refl, sym, ap, _∙_, subst}
+use mathlib.Core.Logic.{_⊎_, inl, inr}
 use mathlib.Core.List.{List, [], _∷_, _++_}
 use Prim.Native.Nat.{ℕ, zero, suc, _+_, _-_, _*_, _≤_, _<_}
 use native.Mathlib.Nat.{not-suc-le-zero, le-of-suc-le-suc, add-suc, add-zero, suc-add}
@@ -8,7 +9,7 @@ use borrow.Author.Count.{below-more}
 use lib.ListN.{length, take, drop, getD, set, length-append, length-set, List·getD-append, length-take, length-drop}
 use lib.Seq.{sets, length-sets, getD-append-add, getD-set-same, getD-set-other, ext-getD, getD-take, getD-drop}
 use Rattle.expr.specs.Terms.{Core, leaf, one, two, size}
-use Rattle.desugar.specs.Memory.{words, Holds, Kept}
+use Rattle.desugar.specs.Memory.{words, Holds, Kept, CopyRoom}
 
 -- the same element, at an index that is equal
 pub same-at : (xs : List ℕ) {i j : ℕ} → i ≡ j → getD xs i 0 ≡ getD xs j 0
@@ -128,31 +129,37 @@ of-part xs i ys b e =
       each = λ k l. sym (getD-drop i xs k 0) ∙ sym (getD-take (length ys) (drop i xs) k 0 l) ∙ ap (λ (s : List ℕ). getD s k 0) e;
     }
 
--- ## A region that is moved down, one number a turn
+-- ## A region that is copied, one number a turn
 
--- after i turns: the first i numbers have moved, and the others stand where they stood
-pub record Copied (xs₀ xs : List ℕ) (from to i : ℕ) : Type 0 where
+-- after i turns: the first i numbers are copied, and the others stand where they stood
+pub record Copied (xs₀ xs : List ℕ) (from to count i : ℕ) : Type 0 where
   pub kept : Kept to xs₀ xs
   pub moved : (k : ℕ) → k < i → getD xs (to + k) 0 ≡ getD xs₀ (from + k) 0
-  pub others : (k : ℕ) → i ≤ k → getD xs (from + k) 0 ≡ getD xs₀ (from + k) 0
+  pub others : (k : ℕ) → i ≤ k → k < count → getD xs (from + k) 0 ≡ getD xs₀ (from + k) 0
 
-pub copied-none : (xs : List ℕ) (from to : ℕ) → Copied xs xs from to 0
-copied-none xs from to = record { kept = kept-all to xs; moved = λ k l. absurd (omega arith); others = λ k l. refl }
+pub copied-none : (xs : List ℕ) (from to count : ℕ) → Copied xs xs from to count 0
+copied-none xs from to count = record { kept = kept-all to xs; moved = λ k l. absurd (omega arith); others = λ k l m. refl }
 
-pub copied-more : (xs₀ xs : List ℕ) (from to i : ℕ) → to ≤ from → from + i < length xs₀ → Copied xs₀ xs from to i → Copied xs₀ (set xs (to + i) (getD xs (from + i) 0)) from to (i + 1)
-copied-more xs₀ xs from to i low fits c = record {
-  kept = kept-then (c .kept) (kept-sets to xs (to + i) (getD xs (from + i) 0 ∷ []) (omega arith));
-  moved = below-more (λ (k : ℕ). getD (set xs (to + i) (getD xs (from + i) 0)) (to + k) 0 ≡ getD xs₀ (from + k) 0) i
-      (λ k l. getD-set-other xs (to + i) (to + k) (getD xs (from + i) 0) 0 (omega arith) ∙ c .moved k l)
-      (getD-set-same xs (to + i) (getD xs (from + i) 0) 0 (omega (arith, c .kept .long)) ∙ c .others i (omega arith));
-  others = λ k l. getD-set-other xs (to + i) (from + k) (getD xs (from + i) 0) 0 (omega arith) ∙ c .others k (omega arith);
-}
+module _ (xs₀ xs : List ℕ) (from to count i : ℕ) (room : CopyRoom (length xs₀) from to count) where
+  -- what is yet to be copied is not overwritten
+  others-apart : (to ≤ from) ⊎ (from + count ≤ to) → (k : ℕ) → i < k → k < count → from + k ≡ to + i → ⊥
+  others-apart (inl h) k l m e = omega arith
+  others-apart (inr h) k l m e = omega arith
 
-pub copied-all : (xs₀ xs : List ℕ) (from to i count : ℕ) → to ≤ from → count ≤ i → from + count ≤ length xs₀ → Copied xs₀ xs from to i → (ys : List ℕ) → length ys ≡ count → Holds xs₀ from ys → Holds xs to ys
-copied-all xs₀ xs from to i count low done fits c ys long h = record {
-  fits = omega (arith, c .kept .long);
-  each = λ k l. c .moved k (omega arith) ∙ h .each k l;
-}
+  pub copied-more : i < count → Copied xs₀ xs from to count i → Copied xs₀ (set xs (to + i) (getD xs (from + i) 0)) from to count (i + 1)
+  copied-more l c = record {
+    kept = kept-then (c .kept) (kept-sets to xs (to + i) (getD xs (from + i) 0 ∷ []) (omega arith));
+    moved = below-more (λ (k : ℕ). getD (set xs (to + i) (getD xs (from + i) 0)) (to + k) 0 ≡ getD xs₀ (from + k) 0) i
+        (λ k l. getD-set-other xs (to + i) (to + k) (getD xs (from + i) 0) 0 (omega arith) ∙ c .moved k l)
+        (getD-set-same xs (to + i) (getD xs (from + i) 0) 0 (omega (arith, c .kept .long, room .target)) ∙ c .others i (omega arith) l);
+    others = λ k m n. getD-set-other xs (to + i) (from + k) (getD xs (from + i) 0) 0 (others-apart (room .apart) k (omega arith) n) ∙ c .others k (omega arith) n;
+  }
+
+  pub copied-all : count ≤ i → Copied xs₀ xs from to count i → (ys : List ℕ) → length ys ≡ count → Holds xs₀ from ys → Holds xs to ys
+  copied-all done c ys long h = record {
+    fits = omega (arith, c .kept .long, room .target);
+    each = λ k l. c .moved k (omega arith) ∙ h .each k l;
+  }
 
 -- ## Cores
 

@@ -40,7 +40,7 @@ pub record AnyBound (xs : List ℕ) (last : ℕ) : Type 0 where
 pub record FrameRoom (xs : List ℕ) (last top : ℕ) : Type 0 where
   pub above : last ≤ top
   pub room : top + 5 ≤ length xs
-  pub small : length xs < 2 ^ 32
+  pub small : top < 2 ^ 32
 
 -- ## What a look-up finds
 

@@ -12,3 +12,6 @@ pub mod NegationOutcome
 pub mod NegationRun
 pub mod CoreBytes
 pub mod BindingWords
+pub mod WalkWords
+pub mod RangedWords
+pub mod DesugarBytes

@@ -1,5 +1,5 @@
 -- Cores in work memory (document 01, "Forms that give way": "records in lent numbers").
-use mathlib.Core.{Path._≡_, Bool.Bool, List.List, List.[], List._∷_, List._++_}
+use mathlib.Core.{Path._≡_, Logic._⊎_, Bool.Bool, List.List, List.[], List._∷_, List._++_}
 use Prim.Native.Nat.{ℕ, _+_, _≤_, _<_}
 use lib.{ListN.length, ListN.getD}
 use Rattle.literals.specs.{Bits.bit}
@@ -52,3 +52,9 @@ pub record Kept (n : ℕ) (xs xs′ : List ℕ) : Type 0 where
 pub record Lies (xs : List ℕ) (at n : ℕ) (c : Core) : Type 0 where
   pub holds : Holds xs at (words c)
   pub count : n ≡ size c
+
+-- numbers can be copied down, or past their own end, within a memory of this length
+pub record CopyRoom (long from to count : ℕ) : Type 0 where
+  pub source : from + count ≤ long
+  pub target : to + count ≤ long
+  pub apart : (to ≤ from) ⊎ (from + count ≤ to)

@@ -75,7 +75,7 @@ impl Bindings {
         self,
         work: &mut [u32],
         top: usize,
-        name: u16,
+        name: u32,
         at: usize,
         count: usize,
     ) -> Self
@@ -84,16 +84,16 @@ impl Bindings {
         ensures { λ r. ⌜ ((env : Env Core) (c : Core) → Bound (now (work .entry)) (self .last) env → Lies (now (work .entry)) at count c
             → Bound (now (work .exit)) (r .last) (variable name c ∷ env)) ⌝ }
     {
-        self.with_frame(work, top, 0, name as u32, at as u32, count as u32)
+        self.with_frame(work, top, 0, name, at as u32, count as u32)
     }
 
     // The alias `name` bound to the fields from `start` up to `end`.
-    pub fn with_alias(self, work: &mut [u32], top: usize, name: u16, start: u32, end: u32) -> Self
+    pub fn with_alias(self, work: &mut [u32], top: usize, name: u32, start: u32, end: u32) -> Self
         requires { ⌜ FrameRoom (now work) (self .last) top ⌝ }
         ensures { λ r. ⌜ (r .last ≡ top + 5) × Kept top (now (work .entry)) (now (work .exit)) ⌝ }
         ensures { λ r. ⌜ ((env : Env Core) → Bound (now (work .entry)) (self .last) env → Bound (now (work .exit)) (r .last) (range name start end ∷ env)) ⌝ }
     {
-        self.with_frame(work, top, 1, name as u32, start, end)
+        self.with_frame(work, top, 1, name, start, end)
     }
 
     // Where the innermost frame of a kind and a name ends; 0 where there is none.
@@ -112,11 +112,11 @@ impl Bindings {
     }
 
     // The core that a variable stands for.
-    pub fn lookup_variable(self, work: &[u32], name: u16) -> Variable
+    pub fn lookup_variable(self, work: &[u32], name: u32) -> Variable
         requires { ⌜ AnyBound (now work) (self .last) ⌝ }
         ensures { λ r. ⌜ ((env : Env Core) → Bound (now (work .entry)) (self .last) env → VariableTold (now (work .entry)) (self .last) (lookupVariable env name) r) ⌝ }
     {
-        let last = self.find(work, 0, name as u32);
+        let last = self.find(work, 0, name);
         if last == 0 {
             return Variable::Unbound;
         }
@@ -126,11 +126,11 @@ impl Bindings {
     }
 
     // The range that an alias stands for.
-    pub fn lookup_alias(self, work: &[u32], name: u16) -> Alias
+    pub fn lookup_alias(self, work: &[u32], name: u32) -> Alias
         requires { ⌜ AnyBound (now work) (self .last) ⌝ }
         ensures { λ r. ⌜ ((env : Env Core) → Bound (now (work .entry)) (self .last) env → aliasRange r ≡ lookupAlias env name) ⌝ }
     {
-        let last = self.find(work, 1, name as u32);
+        let last = self.find(work, 1, name);
         if last == 0 {
             return Alias::Unbound;
         }

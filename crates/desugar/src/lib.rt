@@ -1,11 +1,17 @@
 // Desugaring: from a written policy to one-bit tests and assignments.
 mod between;
 mod bindings;
+pub mod bytes;
 mod core_bytes;
+mod leaf;
 mod leaves;
 mod masks;
 mod memory;
+mod ranged;
+mod rules;
 mod test_negation;
+mod walk;
+mod went;
 
 ghost use mathlib.Core.Path.{_≡_};
 ghost use Rattle.desugar.specs.Bindings.{computeSubrange, subrangeAnswer};

@@ -1,11 +1,11 @@
 // Test negation of a core that lies in work memory: is it a test, two passes over it, and the result in its place.
 mod measured;
-mod moved;
 mod negated;
 mod tested;
 mod written;
 
 pub use tested::is_test;
+ghost use Prim.Native.Nat.{_≤_};
 ghost use lib.ListN.{length};
 ghost use Rattle.expr.specs.Terms.{Core};
 ghost use Rattle.desugar.specs.Memory.{Kept, Lies};
@@ -18,21 +18,22 @@ pub enum Outcome {
     NotTest,
 }
 
-// Negates the core of n records at `at` in its place, if it is a test and the result has at most `limit` records.
-// The regions from `notes` on are room for the passes.
+// The negation of the core of n records at `at`, written to `to`, which may be its own place, if it is a test and the result has at most
+// `limit` records. The regions from `notes` on are room for the passes.
 pub fn negation(
     work: &mut [u32],
     at: usize,
     n: usize,
+    to: usize,
     notes: usize,
     modes: usize,
     out: usize,
     limit: usize,
 ) -> Outcome
-    requires { ⌜ Layout (length (now work)) at n notes modes out limit ⌝ }
+    requires { ⌜ Layout (length (now work)) at n notes modes out limit × (to ≤ notes) ⌝ }
     requires { ⌜ ((c : Core) × Lies (now work) at n c) ⌝ }
-    ensures { λ _. ⌜ Kept at (now (work .entry)) (now (work .exit)) ⌝ }
-    ensures { λ r. ⌜ ((c : Core) → Lies (now (work .entry)) at n c → Negates (now (work .exit)) c at limit r) ⌝ }
+    ensures { λ _. ⌜ Kept to (now (work .entry)) (now (work .exit)) ⌝ }
+    ensures { λ r. ⌜ ((c : Core) → Lies (now (work .entry)) at n c → Negates (now (work .exit)) c to limit r) ⌝ }
 {
     let test = tested::is_test(work, at, n);
     if !test {
@@ -43,7 +44,7 @@ pub fn negation(
     match negated {
         negated::Negated::Size(size) => {
             let count = crate::memory::wide(size);
-            moved::move_down(work, out, at, 3 * count);
+            crate::memory::copy(work, out, to, 3 * count);
             Outcome::Size(size)
         }
         negated::Negated::TooLarge => Outcome::TooLarge,

@@ -16,9 +16,11 @@ pub mod FormSteps
 pub mod Scans
 pub mod FragmentScan
 pub mod FieldScan
+pub mod HeadOf
 pub mod Replacing
 pub mod Copied
 pub mod SwapSteps
 pub mod SwapRest
 pub mod Refusals
+pub mod Places
 pub mod SubstituteSteps

@@ -1,38 +1,24 @@
 -- The walk over one term: its own record, and what comes of its children.
-use mathlib.Core.Path.{_≡_, sym, ap, subst, _∙_}
+use mathlib.Core.Path.{_≡_, sym, ap, _∙_}
 use mathlib.Core.Bool.{Bool, true, false, not, _&&_}
-use mathlib.Core.List.{List, _++_, append-assoc}
+use mathlib.Core.List.{List, _++_}
 use Prim.Native.Nat.{ℕ, _+_, _-_, _^_, _≤_, _<_}
 use native.Mathlib.Omega.{arith}
-use lib.ListN.{length, take, drop, length-append, length-drop}
-use lib.Seq.{take-at}
-use Rattle.literals.specs.Reading.{got}
+use lib.ListN.{length, take, length-append}
 use Rattle.literals.proofs.Logic.{and-left}
 use Rattle.expr.specs.Terms.{Expr, records, depth}
-use Rattle.expr.specs.Records.{readRecord, writeRecord}
+use Rattle.expr.specs.Records.{writeRecord}
 use Rattle.expr.specs.Form.{encode}
-use Rattle.expr.specs.Results.{recordOf, headAnswer, RecordFound, arityOf}
+use Rattle.expr.specs.Results.{arityOf}
 use Rattle.expr.specs.Replaced.{named, swap, swapAll, pasted, Stands, Ready, Done, ReadyAll, DoneAll}
 use Rattle.expr.specs.declared.records.Head.{Head}
-use Rattle.expr.specs.declared.records.HeadRead.{HeadRead}
-use Rattle.expr.specs.declared.records.HeadRead.the-variants as head
 use Rattle.expr.specs.declared.replace.Job.{Job}
 use Rattle.expr.specs.declared.replace.Went.{Went}
-use Rattle.expr.proofs.RecordForm.{record-codec}
 use Rattle.expr.proofs.TermShape.{own, kids, encodeAll, recordsAll, depthAll, encode-is, records-is, depth-is, fits-is}
-use Rattle.expr.proofs.NodeForm.{own-node}
 use Rattle.expr.proofs.Arities.{arity-small}
-use Rattle.expr.proofs.Replacing.{ofName, freeVar, freeFirst, freeOthers, Kept, swap-keeps, swap-var, kids-count, length-is, short}
+use Rattle.expr.proofs.HeadOf.{Headed}
+use Rattle.expr.proofs.Replacing.{ofName, freeVar, freeFirst, freeOthers, Kept, swap-keeps, swap-var, kids-count, length-is}
 use Rattle.expr.proofs.Copied.{pasted-more}
-
--- the record of the term e was read at the front of the bytes s
-pub record Headed (s : List ℕ) (e : Expr) (more : List ℕ) (h : Head) : Type 0 where
-  pub kind : h .kind ≡ own e .kind
-  pub name : h .name ≡ own e .name
-  pub size : h .size ≡ length (writeRecord (own e))
-  pub inside : h .size ≤ length s
-  pub front : take (h .size) s ≡ writeRecord (own e)
-  pub behind : drop (h .size) s ≡ encodeAll (kids e) ++ more
 
 module _ {s : List ℕ} {left : ℕ} {live : Bool} {j : Job} {w out : List ℕ} {to : ℕ} (q : Ready s left live j w out to) where
   abbrev e : Expr
@@ -40,35 +26,6 @@ module _ {s : List ℕ} {left : ℕ} {live : Bool} {j : Job} {w out : List ℕ} 
 
   abbrev e′ : Expr
   e′ = swap (j .name) (q .by) live (q .term)
-
-  cut : s ≡ writeRecord (own e) ++ (encodeAll (kids e) ++ q .more)
-  cut = q .bytes ∙ ap (λ (bs : List ℕ). bs ++ q .more) (encode-is e) ∙ append-assoc (writeRecord (own e)) (encodeAll (kids e)) (q .more)
-
-  reads : readRecord s ≡ got (own e) (encodeAll (kids e) ++ q .more)
-  reads = ap readRecord cut ∙ record-codec .forward (own e) (encodeAll (kids e) ++ q .more) (own-node e .0 (fits-is e .0 (q .fits) .0))
-
-  pub not-refused : {x : HeadRead} {n : ℕ} → RecordFound s x → x ≡ head.Refused n → ⊥
-  not-refused {x} {n} f h =
-      let k : headAnswer s (head.Refused n) ≡ readRecord s = subst (RecordFound s) h f .answer in
-      let z : _≡_ {A = ℕ} 0 1 = cc reads in
-      omega arith
-
-  pub headed : {x : HeadRead} {h : Head} → RecordFound s x → x ≡ head.Found h → Headed s e (q .more) h
-  headed {x} {h} f is =
-      let k : got (recordOf s h) (drop (h .size) s) ≡ readRecord s = subst (RecordFound s) is f .answer in
-      let same : recordOf s h ≡ own e = cc reads in
-      let behind : drop (h .size) s ≡ encodeAll (kids e) ++ q .more = cc reads in
-      let inside : h .size ≤ length s = subst (RecordFound s) is f .inside .1 in
-      let size : h .size ≡ length (writeRecord (own e)) =
-      omega (arith, length-drop (h .size) s, ap length behind, ap length cut, length-append (writeRecord (own e)) (encodeAll (kids e) ++ q .more)) in
-      record {
-        kind = ap (λ r. r .kind) same;
-        name = ap (λ r. r .name) same;
-        size = size;
-        inside = inside;
-        front = ap (take (h .size)) cut ∙ take-at (writeRecord (own e)) (encodeAll (kids e) ++ q .more) (h .size) (sym size);
-        behind = behind;
-      }
 
   pub some-left : 1 ≤ left
   some-left = omega (arith, depth-is e, q .deep)

@@ -2,7 +2,7 @@
 use mathlib.Core.{Path._≡_, Bool.Bool, Bool.cond, Bool._||_, List.List, List.[], List._∷_, Bool._&&_, Option.Option, Option.none, Option.some}
 use Prim.Native.Nat.{ℕ, _+_, _^_, _≤_, _<_, zero, suc}
 use lib.{Dec.leb, ListN.length, ListN.take, ListN.drop, Dec.ltb, Dec.eqb}
-use Rattle.literals.specs.{Bits.bitAt, Bits.unpack, Reading.Read, Reading.got, Reading.fault, Reading.Reads, Reading._>>=_, Reading.give, Reading.ask, Reading.byte, Reading.nonzero, Reading.literal, Reading.maxLiteral, Results.literalAnswer, Results.LiteralInside}
+use Rattle.literals.specs.{Bits.bitAt, Bits.unpack, Reading.Read, Reading.got, Reading.fault, Reading.Reads, Reading._>>=_, Reading.give, Reading.ask, Reading.byte, Reading.nonzero, Reading.literal, Reading.maxLiteral, Reading.bytesFor, Results.literalAnswer, Results.LiteralInside}
 use Rattle.literals.specs.declared.LiteralRead.{LiteralRead}
 use Rattle.expr.specs.{Answers.Answer, Answers.ok, Answers.refuse, Answers.mapAnswer, Terms.Expr, Terms.records, Records.Record, Records.noneLacks, Records.isMatch, Records.fitsPattern, Records.readRecord, Form.maxRecords, Form.Node, Form.nodeOf, Form.node0, Form.node1, Form.node2, Form.node3, Form.parse, Answers.andThen, Form.plainRecord, Terms.testKind, Form.decode, Operations.isTestFragment, Operations.numFields}
 use Rattle.expr.specs.declared.records.Head.{Head}
@@ -132,9 +132,9 @@ abbrev pub headAnswer : List ℕ → HeadRead → Read Record
 headAnswer s (head.Found h) = got (recordOf s h) (drop (h .size) s)
 headAnswer s (head.Refused r) = fault r
 
--- its literals lie inside the bytes, and it has at least its map byte
+-- its literals lie inside the bytes with all their bits, and it has at least its map byte
 abbrev pub HeadInside : List ℕ → HeadRead → Type 0
-HeadInside s (head.Found h) = (1 ≤ h .size) × (h .size ≤ length s) × (h .a .at ≤ length s) × (h .b .at ≤ length s) × (h .a .bits ≤ maxLiteral) × (h .b .bits ≤ maxLiteral)
+HeadInside s (head.Found h) = (1 ≤ h .size) × (h .size ≤ length s) × (h .a .at + bytesFor (h .a .bits) ≤ length s) × (h .b .at + bytesFor (h .b .bits) ≤ length s) × (h .a .bits ≤ maxLiteral) × (h .b .bits ≤ maxLiteral)
 HeadInside s (head.Refused r) = r ≤ 5
 
 pub record RecordFound (s : List ℕ) (r : HeadRead) : Type 0 where

@@ -1,8 +1,8 @@
 -- What the functions of this crate answer, in the words of the definitions.
 use mathlib.Core.{Path._≡_, Bool.Bool, Bool.true, Bool.false, Bool.cond, List.List}
-use Prim.Native.Nat.{ℕ, _≤_}
+use Prim.Native.Nat.{ℕ, _+_, _≤_}
 use lib.{Dec.ltb, Dec.eqb, ListN.length, ListN.take, ListN.drop}
-use Rattle.literals.specs.{Bits.Bits, Bits.unpack, Reading.Read, Reading.got, Reading.fault, Reading.literal, Reading.maxLiteral}
+use Rattle.literals.specs.{Bits.Bits, Bits.unpack, Reading.Read, Reading.got, Reading.fault, Reading.literal, Reading.maxLiteral, Reading.bytesFor}
 use Rattle.literals.specs.declared.LiteralRead.{LiteralRead}
 use Rattle.literals.specs.declared.LiteralRead.the-variants.{Found, Refused}
 use Rattle.literals.specs.declared.Order.{Order}
@@ -13,9 +13,9 @@ abbrev pub literalAnswer : List ℕ → LiteralRead → Read Bits
 literalAnswer s (Found l) = got (take l.bits (unpack (drop l.at s))) (drop l.next s)
 literalAnswer s (Refused r) = fault r
 
--- a literal that was read lies inside the bytes, behind its length byte
+-- a literal that was read lies inside the bytes with all its bits, behind its length byte
 abbrev pub LiteralInside : List ℕ → ℕ → LiteralRead → Type 0
-LiteralInside s at (Found l) = (at ≤ l.at) × (l.at ≤ l.next) × (l.next ≤ length s) × (l.bits ≤ maxLiteral)
+LiteralInside s at (Found l) = (at ≤ l.at) × (l.at + bytesFor l.bits ≤ l.next) × (l.next ≤ length s) × (l.bits ≤ maxLiteral)
 LiteralInside s at (Refused r) = r ≤ 5
 
 pub record LiteralFound (s : List ℕ) (at : ℕ) (r : LiteralRead) : Type 0 where

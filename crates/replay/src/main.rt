@@ -1,8 +1,9 @@
-// Runs the cases of the file `cases` through form, is_test_fragment, num_fields and substitute, and compares each answer in full: number,
-// place, value, every byte of the answer buffer. Prints the index of each case that differs, then how many agree and how many there are.
-// tools/cases.py makes the file and says what a case is.
+// Runs the cases of the file `cases` through form, is_test_fragment, num_fields, substitute and desugar, and compares each answer in full:
+// number, place, values, every byte of the answer buffer. Prints the index of each case that differs, then how many agree and how many
+// there are. tools/cases.py makes the file and says what a case is.
 ghost use Prim.Native.Nat.{_+_, _≤_, _<_};
 ghost use lib.ListN.{length};
+use desugar::bytes::Desugared;
 use expr::form::Formed;
 use expr::operations::FieldCount;
 use expr::operations::Fragment;
@@ -10,20 +11,25 @@ use expr::replace::Substituted;
 use libc::STDOUT_FILENO;
 
 // The longest answer buffer of a case, and what each of its bytes is before a call.
-const ROOM: usize = 4096;
+const ROOM: usize = 8192;
 
 const MARK: u8 = 165;
+
+// What each number of work memory is before a call: its answer does not depend on it.
+const USED: u32 = 0xa5a5_a5a5;
 
 // The head of a case, its numbers read.
 struct Case {
     operation: u8,
     ok: bool,
     name: u16,
-    term: u64,
-    replacement: u64,
-    room: u64,
-    first: u64,
-    second: u64,
+    term: u32,
+    replacement: u32,
+    room: u32,
+    allowance: u32,
+    work: u32,
+    first: u32,
+    second: u32,
 }
 
 // A case that was run: where the next one begins, and whether it agrees.
@@ -37,15 +43,23 @@ struct Tally {
     cases: u64,
 }
 
-// An answer or what is expected of one: a success with its value, or a refusal's number and place.
+// An answer or what is expected of one: a success with its value and 0, of a desugaring the core's length and the drawn total; or a
+// refusal's number and place.
 struct Outcome {
     ok: bool,
     first: u64,
     second: u64,
 }
 
-fn number(a: u8, b: u8, c: u8, d: u8) -> u64 {
-    a as u64 + 256 * (b as u64 + 256 * (c as u64 + 256 * (d as u64)))
+fn number(a: u8, b: u8, c: u8, d: u8) -> u32 {
+    a as u32 + 256 * (b as u32 + 256 * (c as u32 + 256 * (d as u32)))
+}
+
+// The number at `at`.
+fn field(bytes: &[u8], at: usize) -> u32
+    requires { ⌜ at + 4 ≤ length (now bytes) ⌝ }
+{
+    number(bytes[at], bytes[at + 1], bytes[at + 2], bytes[at + 3])
 }
 
 fn short(a: u8, b: u8) -> u16 {
@@ -53,32 +67,19 @@ fn short(a: u8, b: u8) -> u16 {
 }
 
 fn head(bytes: &[u8], at: usize) -> Case
-    requires { ⌜ at + 24 ≤ length (now bytes) ⌝ }
+    requires { ⌜ at + 32 ≤ length (now bytes) ⌝ }
 {
     Case {
         operation: bytes[at],
         ok: bytes[at + 1] == 1,
         name: short(bytes[at + 2], bytes[at + 3]),
-        term: number(bytes[at + 4], bytes[at + 5], bytes[at + 6], bytes[at + 7]),
-        replacement: number(bytes[at + 8], bytes[at + 9], bytes[at + 10], bytes[at + 11]),
-        room: number(
-            bytes[at + 12],
-            bytes[at + 13],
-            bytes[at + 14],
-            bytes[at + 15],
-        ),
-        first: number(
-            bytes[at + 16],
-            bytes[at + 17],
-            bytes[at + 18],
-            bytes[at + 19],
-        ),
-        second: number(
-            bytes[at + 20],
-            bytes[at + 21],
-            bytes[at + 22],
-            bytes[at + 23],
-        ),
+        term: field(bytes, at + 4),
+        replacement: field(bytes, at + 8),
+        room: field(bytes, at + 12),
+        allowance: field(bytes, at + 16),
+        work: field(bytes, at + 20),
+        first: field(bytes, at + 24),
+        second: field(bytes, at + 28),
     }
 }
 
@@ -120,10 +121,7 @@ fn fields(term: &[u8]) -> Outcome {
 }
 
 fn agree(want: Outcome, got: Outcome) -> bool {
-    if want.ok {
-        return got.ok && want.first == got.first;
-    }
-    !got.ok && want.first == got.first && want.second == got.second
+    want.ok == got.ok && want.first == got.first && want.second == got.second
 }
 
 // A Substitute with a buffer of `room` bytes. A case with more room than there is differs, for no refusal has the number 0.
@@ -146,14 +144,64 @@ fn holds(out: &[u8], result: &[u8]) -> bool {
     if out.len() < n {
         return false;
     }
-    let marks = [MARK; 4096];
+    let marks = [MARK; 8192];
     check::same(&out[0..n], result) && check::same(&out[n..], &marks[n..])
 }
 
 // Whether a Substitute agrees: its answer, and every byte of a buffer that was marked before.
 fn replaced(case: Case, want: Outcome, term: &[u8], replacement: &[u8], result: &[u8]) -> bool {
-    let mut out = [MARK; 4096];
+    let mut out = [MARK; 8192];
     let got = substituted(term, case.name, replacement, &mut out, case.room as usize);
+    agree(want, got) && holds(&out, result)
+}
+
+// A desugaring with `size` numbers of work memory and a buffer of `room` bytes. A case with more of either than there is differs.
+fn desugared(
+    term: &[u8],
+    allowance: u32,
+    work: &mut [u32],
+    size: usize,
+    out: &mut [u8],
+    room: usize,
+) -> Outcome {
+    if work.len() < size {
+        return refusal(0, 0);
+    }
+    if out.len() < room {
+        return refusal(0, 0);
+    }
+    match desugar::bytes::desugar(term, allowance, &mut work[0..size], &mut out[0..room]) {
+        Desugared::Done(n, drawn) => Outcome {
+            ok: true,
+            first: n as u64,
+            second: drawn as u64,
+        },
+        Desugared::Refused(number, place) => refusal(number, place),
+    }
+}
+
+// The same, with the work memory of the largest case.
+fn desugared_anew(
+    term: &[u8],
+    allowance: u32,
+    size: usize,
+    out: &mut [u8],
+    room: usize,
+) -> Outcome {
+    let mut work = [USED; 900000];
+    desugared(term, allowance, &mut work, size, out, room)
+}
+
+// Whether a desugaring agrees: its answer, and every byte of a buffer that was marked before.
+fn cored(case: Case, want: Outcome, term: &[u8], result: &[u8]) -> bool {
+    let mut out = [MARK; 8192];
+    let got = desugared_anew(
+        term,
+        case.allowance,
+        case.work as usize,
+        &mut out,
+        case.room as usize,
+    );
     agree(want, got) && holds(&out, result)
 }
 
@@ -161,8 +209,8 @@ fn replaced(case: Case, want: Outcome, term: &[u8], replacement: &[u8], result: 
 fn agrees(case: Case, term: &[u8], replacement: &[u8], result: &[u8]) -> bool {
     let want = Outcome {
         ok: case.ok,
-        first: case.first,
-        second: case.second,
+        first: case.first as u64,
+        second: case.second as u64,
     };
     let operation = case.operation;
     match operation {
@@ -170,23 +218,25 @@ fn agrees(case: Case, term: &[u8], replacement: &[u8], result: &[u8]) -> bool {
         2 => agree(want, fragment(term)),
         3 => agree(want, fields(term)),
         4 => replaced(case, want, term, replacement, result),
+        5 => cored(case, want, term, result),
         _ => false,
     }
 }
 
-// How many bytes a successful Substitute writes, and of any other case none.
+// How many bytes a successful Substitute or desugaring writes, and of any other case none.
 fn written(case: Case) -> usize {
-    if case.operation == 4 {
-        if case.ok {
-            return case.first as usize;
-        }
+    if case.operation < 4 {
+        return 0;
+    }
+    if case.ok {
+        return case.first as usize;
     }
     0
 }
 
 // The case at `at`: where the next one begins, and whether it agrees. One that is cut short differs, and is the last.
 fn run(bytes: &[u8], at: usize) -> Ran
-    requires { ⌜ at + 24 ≤ length (now bytes) ⌝ }
+    requires { ⌜ at + 32 ≤ length (now bytes) ⌝ }
     ensures { λ r. ⌜ (at < r .next) × (r .next ≤ length (now (bytes .entry))) ⌝ }
 {
     let case = head(bytes, at);
@@ -194,7 +244,7 @@ fn run(bytes: &[u8], at: usize) -> Ran
         next: bytes.len(),
         ok: false,
     };
-    let first = at + 24;
+    let first = at + 32;
     let t = case.term as usize;
     if bytes.len() - first < t {
         return last;
@@ -230,7 +280,7 @@ fn run_all(bytes: &[u8]) -> Tally {
     let mut at = 0;
     let mut agreed: u64 = 0;
     let mut cases: u64 = 0;
-    while 24 <= bytes.len() - at {
+    while 32 <= bytes.len() - at {
         let ran = run(bytes, at);
         if ran.ok {
             agreed += 1;
@@ -257,7 +307,7 @@ fn main() {
         os::fail(path);
         return;
     }
-    let mut bytes = io::large_buffer();
+    let mut bytes = [0; 131072];
     let n = io::read_full(fd, &mut bytes);
     libc::close(fd);
     let tally = run_all(&bytes[..n]);

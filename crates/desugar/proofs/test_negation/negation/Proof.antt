@@ -1,6 +1,7 @@
 -- `desugar::test_negation::negation` meets its contract.
 use Prim.Native.Nat.{ℕ, _*_}
 use mathlib.Core.Path.{sym, ap, _∙_}
+use mathlib.Core.Logic.{inl}
 use native.Mathlib.Omega.{arith}
 use borrow.Author.Tests.{not-true, not-false}
 use borrow.Author.Needs.{needs}
@@ -21,15 +22,15 @@ returns c = (kept-all _ _, λ t h. no-test (sym (c .before .is-test .ensures t h
 measure-requires : tie.Need-measure-requires
 measure-requires c κs =
     let p = c .before .before .before .before .before .pre in
-    ((p .1 .0, p .1 .1, sym (c .before .before .is-test .ensures (p .1 .0) (p .1 .1)) ∙ not-false _ (c .before .if1 .left)), omega (arith, p .0))
+    ((p .1 .0, p .1 .1, sym (c .before .before .is-test .ensures (p .1 .0) (p .1 .1)) ∙ not-false _ (c .before .if1 .left)), omega (arith, p .0 .0))
 
 -- From here on m is the place after `measure`, and s the start.
 negate-requires : tie.Need-negate-requires
 negate-requires c κs =
     let m = c .before .before .before in
     let s = m .before .before .before .before .before .before in
-    let noted = noted-after (s .pre .0) (m .before .before .before .is-test .ensures) (not-false _ (m .before .before .if1 .left)) (m .measure .ensures .0) (m .measure .ensures .1) in
-    (rw (m .measure .ensures .0 .long) (s .pre .0), (s .pre .1 .0, noted (s .pre .1 .0) (s .pre .1 .1)))
+    let noted = noted-after (s .pre .0 .0) (m .before .before .before .is-test .ensures) (not-false _ (m .before .before .if1 .left)) (m .measure .ensures .0) (m .measure .ensures .1) in
+    (rw (m .measure .ensures .0 .long) (s .pre .0 .0), (s .pre .1 .0, noted (s .pre .1 .0) (s .pre .1 .1)))
 
 enum-known-negated : tie.Need-enum-known-negated
 enum-known-negated c = search needs
@@ -37,16 +38,20 @@ enum-known-negated c = search needs
 wide-requires : tie.Need-wide-requires
 wide-requires c κs = search needs
 
-mul-move-down : tie.Need-mul-move-down
-mul-move-down c = search needs
+mul-copy : tie.Need-mul-copy
+mul-copy c = search needs
 
-move-down-requires : tie.Need-move-down-requires
-move-down-requires c κs =
+copy-requires : tie.Need-copy-requires
+copy-requires c κs =
     let m = c .before .before .before .before .before .before .before .before .before .before .before in
     let s = m .before .before .before .before .before .before in
-    let noted = noted-after (s .pre .0) (m .before .before .before .is-test .ensures) (not-false _ (m .before .before .if1 .left)) (m .measure .ensures .0) (m .measure .ensures .1) in
+    let noted = noted-after (s .pre .0 .0) (m .before .before .before .is-test .ensures) (not-false _ (m .before .before .if1 .left)) (m .measure .ensures .0) (m .measure .ensures .1) in
     let size = size-is (c .before .before .before .before .before .before .before .negate .ensures .1 (s .pre .1 .0) (noted (s .pre .1 .0) (s .pre .1 .1))) (c .before .before .before .negated .given .1) in
-    (omega (arith, s .pre .0), omega (arith, size, s .pre .0, c .before .wide .ensures, m .measure .ensures .0 .long, c .before .before .before .before .before .before .before .negate .ensures .0 .long))
+    record {
+      source = omega (arith, size, s .pre .0 .0, c .before .wide .ensures, m .measure .ensures .0 .long, c .before .before .before .before .before .before .before .negate .ensures .0 .long);
+      target = omega (arith, size, s .pre .0 .0, s .pre .0 .1, c .before .wide .ensures, m .measure .ensures .0 .long, c .before .before .before .before .before .before .before .negate .ensures .0 .long);
+      apart = inl (omega (arith, s .pre .0 .0, s .pre .0 .1));
+    }
 
 enum-told : tie.Need-enum-told
 enum-told c = search needs
@@ -58,10 +63,10 @@ returns-2 : tie.Need-returns-2
 returns-2 c =
     let m = c .before .before .before .before .before .before .before .before .before .before .before .before .before .before in
     let s = m .before .before .before .before .before .before in
-    let noted = noted-after (s .pre .0) (m .before .before .before .is-test .ensures) (not-false _ (m .before .before .if1 .left)) (m .measure .ensures .0) (m .measure .ensures .1) in
+    let noted = noted-after (s .pre .0 .0) (m .before .before .before .is-test .ensures) (not-false _ (m .before .before .if1 .left)) (m .measure .ensures .0) (m .measure .ensures .1) in
     let negate = c .before .before .before .before .before .before .before .before .before .before .negate .ensures in
-    let down = c .before .before .move-down .ensures in (
-      kept-then (kept-less (omega (arith, s .pre .0)) (m .measure .ensures .0)) (kept-then (kept-less (omega (arith, s .pre .0)) (negate .0)) (down .0)),
+    let down = c .before .before .copy .ensures in (
+      kept-then (kept-less (omega (arith, s .pre .0 .0, s .pre .0 .1)) (m .measure .ensures .0)) (kept-then (kept-less (omega (arith, s .pre .0 .0, s .pre .0 .1)) (negate .0)) (down .0)),
       λ t h. fits (noted t h .test) (negate .1 t (noted t h)) (c .before .before .before .before .before .before .negated .given .1) (λ ys e. down .1 ys (e ∙ ap (λ (k : ℕ). 3 * k) (sym (c .before .before .before .before .wide .ensures)))),
     )
 
@@ -72,9 +77,9 @@ returns-3 : tie.Need-returns-3
 returns-3 c =
     let m = c .before .before .before .before .before .before .before .before in
     let s = m .before .before .before .before .before .before in
-    let noted = noted-after (s .pre .0) (m .before .before .before .is-test .ensures) (not-false _ (m .before .before .if1 .left)) (m .measure .ensures .0) (m .measure .ensures .1) in
+    let noted = noted-after (s .pre .0 .0) (m .before .before .before .is-test .ensures) (not-false _ (m .before .before .if1 .left)) (m .measure .ensures .0) (m .measure .ensures .1) in
     let negate = c .before .before .before .before .negate .ensures in (
-      kept-then (kept-less (omega (arith, s .pre .0)) (m .measure .ensures .0)) (kept-less (omega (arith, s .pre .0)) (negate .0)),
+      kept-then (kept-less (omega (arith, s .pre .0 .0, s .pre .0 .1)) (m .measure .ensures .0)) (kept-less (omega (arith, s .pre .0 .0, s .pre .0 .1)) (negate .0)),
       λ t h. large (noted t h .test) (negate .1 t (noted t h)) (c .enum-told .given .1),
     )
 
@@ -89,8 +94,8 @@ negation-spec =
     negate-requires
     enum-known-negated
     wide-requires
-    mul-move-down
-    move-down-requires
+    mul-copy
+    copy-requires
     enum-told
     same-length-2
     returns-2

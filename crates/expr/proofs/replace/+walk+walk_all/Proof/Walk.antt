@@ -7,7 +7,8 @@ use Prim.Native.Nat.{ℕ}
 use Rattle.expr.specs.Replaced.{Ready}
 use Rattle.expr.proofs.Arities.{arity-small}
 use Rattle.expr.proofs.Replacing.{freeVar, freeFirst, freeOthers}
-use Rattle.expr.proofs.SwapSteps.{Headed, not-refused, headed, some-left, is-var, is-first, is-others, var-room, var-small, var-done, own-long, own-room, own-small, all-ready, all-done}
+use Rattle.expr.proofs.HeadOf.{Headed, not-refused, headed}
+use Rattle.expr.proofs.SwapSteps.{some-left, is-var, is-first, is-others, var-room, var-small, var-done, own-long, own-room, own-small, all-ready, all-done}
 use Rattle.expr.proofs.replace.walk.Reads as walk
 use Rattle.expr.proofs.replace.+walk+walk_all.Lts-walk as walk-lts
 use Rattle.expr.proofs.replace.+walk+walk_all.Proof.Common.{walk-claims, walk-at}
@@ -30,7 +31,7 @@ module _ (t : ℕ) where
   ready c = start c .pre .1
 
   head-at : (c : Seen) (q : Q (start c)) → Headed (start c .args .s .now) (q .term) (q .more) (c .before .before .before .head .given .0 .0)
-  head-at c q = headed q (c .before .before .before .before .before .read-record .ensures) (c .before .before .before .head .given .1)
+  head-at c q = headed (q .term) (q .more) (q .bytes) (q .fits) (c .before .before .before .before .before .read-record .ensures) (c .before .before .before .head .given .1)
 
   var-at : (c : Seen) (q : Q (start c)) {r : Bool} → c .both .result ≡ r → freeVar (start c .args .live) (start c .args .job .name) (q .term) ≡ r
   var-at c q e = is-var q (head-at c q) (c .before .is-named .ensures) (c .both .ensures) e
@@ -64,7 +65,7 @@ module _ (t : ℕ) where
   walk-enum-told c = search needs
 
   pub walk-returns : walk-lts.Need-returns (walk-claims t) (walk-at t) walk.Post
-  walk-returns c = λ q. absurd (not-refused q (c .before .before .read-record .ensures) (c .enum-told .given .1))
+  walk-returns c = λ q. absurd (not-refused (q .term) (q .more) (q .bytes) (q .fits) (c .before .before .read-record .ensures) (c .enum-told .given .1))
 
   pub walk-enum-known-head : walk-lts.Need-enum-known-head (walk-claims t) (walk-at t) walk.Post
   walk-enum-known-head c = search needs

@@ -1,0 +1,34 @@
+-- `desugar::leaf::plain` meets its contract.
+use mathlib.Core.Path.{refl}
+use native.Mathlib.Omega.{arith}
+use borrow.Author.Needs.{needs}
+use Rattle.expr.specs.Terms.{leaf}
+use Rattle.expr.specs.Results.{recordOf}
+use Rattle.desugar.specs.RangedWords.{atomOf}
+use Rattle.desugar.proofs.LeafSteps.{too-large, came-stored}
+use Rattle.desugar.proofs.leaf.plain.Statement.{statement}
+use Rattle.desugar.proofs.leaf.plain.Tie as tie
+
+returns : tie.Need-returns
+returns c = λ s ρ. too-large (leaf (atomOf (recordOf s (c .before .before .args .head)))) (c .before .before .args .place) (c .before .before .args .allowance) (omega (arith, c .if1 .taken))
+
+write-atom-requires : tie.Need-write-atom-requires
+write-atom-requires c κs = search needs
+
+add-t10 : tie.Need-add-t10
+add-t10 c = search needs
+
+sub-t11 : tie.Need-sub-t11
+sub-t11 c = search needs
+
+same-length : tie.Need-same-length
+same-length c = search needs
+
+returns-2 : tie.Need-returns-2
+returns-2 c =
+    let a = c .before .before .before .before .before .before .args in
+    λ s ρ. came-stored (leaf (atomOf (recordOf s (a .head)))) (a .place) (a .allowance) 1 refl (omega (arith, c .before .before .before .before .if1 .left)) (a .head .size) _ (a .top) (a .work .now) _ (c .before .before .before .before .before .before .pre .1 .room)
+    (c .before .before .write-atom .ensures s)
+
+pub plain-spec : {M : Type 1} → statement M
+plain-spec = tie.close (tie.spec returns write-atom-requires add-t10 sub-t11 same-length returns-2)
