@@ -7,3 +7,5 @@ pub mod AtPoint
 pub mod Numbers
 pub mod Whole
 pub mod Theorems
+pub mod HostBounds
+pub mod HostAnswers

@@ -1,4 +1,7 @@
 // What the solver's Rust process calls.
+mod answers;
+mod operations;
+
 ghost use mathlib.Core.Path.{_≡_};
 ghost use Rattle.desugar.specs.Bindings.{computeSubrange};
 ghost use Rattle.netkat.specs.Entry.{hosted};

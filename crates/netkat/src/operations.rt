@@ -1,0 +1,70 @@
+// Test fragment, Field count, Substitute and Desugar, as the solver's Rust process calls them.
+ghost use mathlib.Core.Path.{_≡_};
+ghost use lib.ListN.{length};
+ghost use Rattle.literals.specs.Bits.{bit};
+ghost use Rattle.expr.specs.Answers.{mapAnswer};
+ghost use Rattle.expr.specs.Operations.{fragmentBytes, fieldsBytes, substituteBytes};
+ghost use Rattle.desugar.specs.Desugar.{desugarBytes};
+ghost use Rattle.netkat.specs.Entry.{hosted, Hosts};
+use crate::Answer;
+use desugar::bytes::Desugared;
+use expr::operations::FieldCount;
+use expr::operations::Fragment;
+use expr::replace::Substituted;
+
+// Whether a term is in the test fragment: the first value is 1 if it is, and else 0.
+#[no_mangle]
+pub extern "C" fn netkat_is_test_fragment(term: &[u8]) -> Answer
+    ensures { λ r. ⌜ r ≡ hosted (mapAnswer (λ b. (bit b, 0)) (fragmentBytes (now (term .entry)))) ⌝ }
+{
+    match expr::operations::is_test_fragment(term) {
+        Fragment::Refused(number, at) => crate::answers::refused(number, at),
+        Fragment::Is(yes) => crate::answers::judged(yes),
+    }
+}
+
+// How many fields a term needs: the first value.
+#[no_mangle]
+pub extern "C" fn netkat_num_fields(term: &[u8]) -> Answer
+    ensures { λ r. ⌜ r ≡ hosted (mapAnswer (λ n. (n, 0)) (fieldsBytes (now (term .entry)))) ⌝ }
+{
+    match expr::operations::num_fields(term) {
+        FieldCount::Refused(number, at) => crate::answers::refused(number, at),
+        FieldCount::Count(count) => crate::answers::success(count, 0),
+    }
+}
+
+// The term with each free occurrence of the variable `name` replaced, to the front of the answer buffer: the first value is its length.
+#[no_mangle]
+pub extern "C" fn netkat_substitute(
+    term: &[u8],
+    name: u16,
+    replacement: &[u8],
+    out: &mut [u8],
+) -> Answer
+    ensures { λ r. ⌜ Hosts (mapAnswer (λ bs. (bs, 0)) (substituteBytes (now (term .entry)) name (now (replacement .entry)) (length (now (out .entry)))))
+        (now (out .entry)) (now (out .exit)) r ⌝ }
+{
+    match expr::replace::substitute(term, name, replacement, out) {
+        Substituted::Refused(number, at) => crate::answers::refused(number, at),
+        Substituted::Length(length) => crate::answers::success(length as u32, 0),
+    }
+}
+
+// The core of a term, to the front of the answer buffer: the values are its length and the drawn total. Of work memory only its length is
+// promised.
+#[no_mangle]
+pub extern "C" fn netkat_desugar(
+    term: &[u8],
+    allowance: u32,
+    work: &mut [u32],
+    out: &mut [u8],
+) -> Answer
+    ensures { λ r. ⌜ Hosts (desugarBytes (now (term .entry)) allowance (length (now (work .entry))) (length (now (out .entry))))
+        (now (out .entry)) (now (out .exit)) r ⌝ }
+{
+    match desugar::bytes::desugar(term, allowance, work, out) {
+        Desugared::Refused(number, at) => crate::answers::refused(number, at),
+        Desugared::Done(length, drawn) => crate::answers::success(length as u32, drawn as u32),
+    }
+}
