@@ -20,7 +20,7 @@ use Rattle.desugar.specs.Bindings.{Env}
 use Rattle.desugar.specs.Meter.{left}
 use Rattle.desugar.specs.Desugar.{desugar}
 use Rattle.desugar.specs.BindingWords.{Bound}
-use Rattle.desugar.specs.WalkWords.{TermsAt, Stack, WalkedAs, Ready, ReadyOne, ReadyTwo, ReadyThree, Operator1, Operator2, LeafReady}
+use Rattle.desugar.specs.WalkWords.{TermAt, TermsAt, Stack, WalkedAs, Ready, ReadyOne, ReadyTwo, ReadyThree, Operator1, Operator2, LeafReady}
 use Rattle.desugar.specs.declared.went.Walked.{Walked}
 use Rattle.desugar.proofs.Regions.{kept-all}
 use Rattle.desugar.proofs.WalkLaws.{stack-moved, wider}
@@ -73,66 +73,88 @@ leaf-arity {k} (inr h) a b c d = arity-past k (omega arith)
 
 -- ## A node filled with its children
 
-fill-none : {n : Node} {es : List Expr} {e : Expr} → Fill n es e → childCount n ≡ 0 → (n ≡ node0 e) × (es ≡ [])
+pub fill-none : {n : Node} {es : List Expr} {e : Expr} → Fill n es e → childCount n ≡ 0 → (n ≡ node0 e) × (es ≡ [])
 fill-none fill0 h = (refl, refl)
 fill-none fill1 h = absurd (omega (arith, h))
 fill-none fill2 h = absurd (omega (arith, h))
 fill-none fill3 h = absurd (omega (arith, h))
 
--- what is told of the term e, whose record ends at a byte and whose children are es
-module _ (s xs : List ℕ) (from l last top a place : ℕ) (env : Env Core) where
-  abbrev Told : Expr → (levels : ℕ) → List ℕ → Walked → Type 0
-  Told e levels ys r = WalkedAs (desugar env e place (left a)) (length (encode e)) (place + records e) top a levels xs ys r
+moved : (P : Expr → (used next : ℕ) → Type 0) (e : Expr) {u u′ n n′ : ℕ} → u ≡ u′ → n ≡ n′ → P e u n → P e u′ n′
+moved P e {u} {u′} {n} {n′} i j p = subst (λ m. P e m n′) i (subst (λ m. P e u m) j p)
 
-  again : (levels : ℕ) (e : Expr) (u n : ℕ) (ys : List ℕ) (r : Walked) → l + 1 ≤ levels → u ≡ length (encode e) → n ≡ place + records e
-      → WalkedAs (desugar env e place (left a)) u n top a (l + 1) xs ys r → Told e levels ys r
-  again levels e u n ys r h used next v =
-      wider (desugar env e place (left a)) (desugar env e place (left a)) (length (encode e)) u (place + records e) n top top a a levels (l + 1) xs xs ys r
-      refl used next (omega arith) (omega arith) (omega arith) (kept-all top xs) v
+-- what is told of the node with its children, its bytes and the index behind it, is told of the term e, whose record ends at a byte
+module _ (s : List ℕ) (from l place : ℕ) (P : Expr → (used next : ℕ) → Type 0) where
+  one-filled : {f : Expr → Expr} {es : List Expr} {e : Expr} → Fill (node1 f) es e → TermsAt s from l (place + 1) es
+      → from + length (encodeAll es) ≡ length (encode e) → 1 + recordsAll es ≡ records e
+      → ((b : Expr) → TermsAt s from l (place + 1) (b ∷ []) → P (f b) (from + length (encode b)) (place + 1 + records b))
+      → P e (length (encode e)) (place + records e)
+  one-filled (fill1 {f = f} {a = b}) t used next v = moved P (f b) (omega (arith, used, length-append (encode b) [])) (omega (arith, next)) (v b t)
 
-  abbrev pub one-ready : {f : Expr → Expr} {es : List Expr} {e : Expr} → Fill (node1 f) es e → TermsAt s from l (place + 1) es → Stack xs last top a (l + 1) env
-      → ReadyOne s from l place last top a xs
-  one-ready (fill1 {a = b}) t k = record { first = b; env = env; text = t; stack = k }
+  two-filled : {f : Expr → Expr → Expr} {es : List Expr} {e : Expr} → Fill (node2 f) es e → TermsAt s from l (place + 1) es
+      → from + length (encodeAll es) ≡ length (encode e) → 1 + recordsAll es ≡ records e
+      → ((b c : Expr) → TermsAt s from l (place + 1) (b ∷ c ∷ []) → P (f b c) (from + length (encodeAll (b ∷ c ∷ []))) (place + 1 + records b + records c))
+      → P e (length (encode e)) (place + records e)
+  two-filled (fill2 {f = f} {a = b} {b = c}) t used next v = moved P (f b c) used (omega (arith, next)) (v b c t)
 
-  pub one-told : {f : Expr → Expr} {es : List Expr} {e : Expr} (levels : ℕ) (ys : List ℕ) (r : Walked) → Fill (node1 f) es e → TermsAt s from l (place + 1) es
-      → Stack xs last top a (l + 1) env → l + 1 ≤ levels → from + length (encodeAll es) ≡ length (encode e) → 1 + recordsAll es ≡ records e
-      → ((q : ReadyOne s from l place last top a xs)
-      → WalkedAs (desugar (q .env) (f (q .first)) place (left a)) (from + length (encode (q .first))) (place + 1 + records (q .first)) top a (l + 1) xs ys r)
-      → Told e levels ys r
-  one-told levels ys r (fill1 {f = f} {a = b}) t k h used next v =
-      again levels (f b) (from + length (encode b)) (place + 1 + records b) ys r h (omega (arith, used, length-append (encode b) [])) (omega (arith, next))
-      (v (record { first = b; env = env; text = t; stack = k }))
-
-  abbrev pub two-ready : {f : Expr → Expr → Expr} {es : List Expr} {e : Expr} → Fill (node2 f) es e → TermsAt s from l (place + 1) es → Stack xs last top a (l + 1) env
-      → ReadyTwo s from l place last top a xs
-  two-ready (fill2 {a = b} {b = c}) t k = record { first = b; second = c; env = env; text = t; stack = k }
-
-  pub two-told : {f : Expr → Expr → Expr} {es : List Expr} {e : Expr} (levels : ℕ) (ys : List ℕ) (r : Walked) → Fill (node2 f) es e → TermsAt s from l (place + 1) es
-      → Stack xs last top a (l + 1) env → l + 1 ≤ levels → from + length (encodeAll es) ≡ length (encode e) → 1 + recordsAll es ≡ records e
-      → ((q : ReadyTwo s from l place last top a xs)
-      → WalkedAs (desugar (q .env) (f (q .first) (q .second)) place (left a)) (from + length (encodeAll (q .first ∷ q .second ∷ [])))
-      (place + 1 + records (q .first) + records (q .second)) top a (l + 1) xs ys r)
-      → Told e levels ys r
-  two-told levels ys r (fill2 {f = f} {a = b} {b = c}) t k h used next v =
-      again levels (f b c) (from + length (encodeAll (b ∷ c ∷ []))) (place + 1 + records b + records c) ys r h used (omega (arith, next))
-      (v (record { first = b; second = c; env = env; text = t; stack = k }))
-
-  abbrev pub three-ready : {f : Expr → Expr → Expr → Expr} {es : List Expr} {e : Expr} → Fill (node3 f) es e → TermsAt s from l (place + 1) es
-      → Stack xs last top a (l + 1) env → ReadyThree s from l place last top a xs
-  three-ready (fill3 {a = b} {b = c} {c = d}) t k = record { first = b; second = c; third = d; env = env; text = t; stack = k }
-
-  pub three-told : {f : Expr → Expr → Expr → Expr} {es : List Expr} {e : Expr} (levels : ℕ) (ys : List ℕ) (r : Walked) → Fill (node3 f) es e
-      → TermsAt s from l (place + 1) es → Stack xs last top a (l + 1) env → l + 1 ≤ levels → from + length (encodeAll es) ≡ length (encode e)
-      → 1 + recordsAll es ≡ records e
-      → ((q : ReadyThree s from l place last top a xs)
-      → WalkedAs (desugar (q .env) (f (q .first) (q .second) (q .third)) place (left a)) (from + length (encodeAll (q .first ∷ q .second ∷ q .third ∷ [])))
-      (place + 1 + records (q .first) + records (q .second) + records (q .third)) top a (l + 1) xs ys r)
-      → Told e levels ys r
-  three-told levels ys r (fill3 {f = f} {a = b} {b = c} {c = d}) t k h used next v =
-      again levels (f b c d) (from + length (encodeAll (b ∷ c ∷ d ∷ []))) (place + 1 + records b + records c + records d) ys r h used (omega (arith, next))
-      (v (record { first = b; second = c; third = d; env = env; text = t; stack = k }))
+  three-filled : {f : Expr → Expr → Expr → Expr} {es : List Expr} {e : Expr} → Fill (node3 f) es e → TermsAt s from l (place + 1) es
+      → from + length (encodeAll es) ≡ length (encode e) → 1 + recordsAll es ≡ records e
+      → ((b c d : Expr) → TermsAt s from l (place + 1) (b ∷ c ∷ d ∷ [])
+      → P (f b c d) (from + length (encodeAll (b ∷ c ∷ d ∷ []))) (place + 1 + records b + records c + records d))
+      → P e (length (encode e)) (place + records e)
+  three-filled (fill3 {f = f} {a = b} {b = c} {c = d}) t used next v = moved P (f b c d) used (omega (arith, next)) (v b c d t)
 
 -- ## A term whose record was read
+
+module _ {s : List ℕ} {levels place : ℕ} (e : Expr) (t : TermAt s levels place e) {h : Head} (k : Headed s e (t .more) h) where
+  pub levels-left : 1 ≤ levels
+  levels-left = omega (arith, depth-is e, t .deep)
+
+  pub node-filled : {n : Node} → nodeOf (recordOf s h) ≡ n → Fill n (kids e) e
+  node-filled i = subst (λ n. Fill n (kids e) e) i (subst (λ r. Fill (nodeOf r) (kids e) e) (sym (k .same)) (own-node e .1))
+
+  pub kids-text : TermsAt s (h .size) (levels - 1) (place + 1) (kids e)
+  kids-text =
+      record {
+        more = t .more;
+        start = k .inside;
+        bytes = k .behind;
+        fits = fits-is e .0 (t .fits) .1;
+        deep = omega (arith, depth-is e, t .deep);
+        low = omega (arith, records-is e, t .low);
+      }
+
+  pub used-is : h .size + length (encodeAll (kids e)) ≡ length (encode e)
+  used-is = omega (arith, k .size, length-is e)
+
+  pub kind-low : h .kind ≤ 26
+  kind-low = omega (arith, k .kind, own-node e .0 (fits-is e .0 (t .fits) .0) .kind)
+
+  -- what is told of its node with the children behind its record is told of the term
+  module _ (P : Expr → (used next : ℕ) → Type 0) where
+    pub one-kid : {f : Expr → Expr} → nodeOf (recordOf s h) ≡ node1 f
+        → ((b : Expr) → TermsAt s (h .size) (levels - 1) (place + 1) (b ∷ []) → P (f b) (h .size + length (encode b)) (place + 1 + records b))
+        → P e (length (encode e)) (place + records e)
+    one-kid n = one-filled s (h .size) (levels - 1) place P (node-filled n) kids-text used-is (sym (records-is e))
+
+    pub two-kids : {f : Expr → Expr → Expr} → nodeOf (recordOf s h) ≡ node2 f
+        → ((b c : Expr) → TermsAt s (h .size) (levels - 1) (place + 1) (b ∷ c ∷ [])
+        → P (f b c) (h .size + length (encodeAll (b ∷ c ∷ []))) (place + 1 + records b + records c))
+        → P e (length (encode e)) (place + records e)
+    two-kids n = two-filled s (h .size) (levels - 1) place P (node-filled n) kids-text used-is (sym (records-is e))
+
+    pub three-kids : {f : Expr → Expr → Expr → Expr} → nodeOf (recordOf s h) ≡ node3 f
+        → ((b c d : Expr) → TermsAt s (h .size) (levels - 1) (place + 1) (b ∷ c ∷ d ∷ [])
+        → P (f b c d) (h .size + length (encodeAll (b ∷ c ∷ d ∷ []))) (place + 1 + records b + records c + records d))
+        → P e (length (encode e)) (place + records e)
+    three-kids n = three-filled s (h .size) (levels - 1) place P (node-filled n) kids-text used-is (sym (records-is e))
+
+  -- a term without children is its record
+  pub alone : 0 ≡ arityOf (h .kind) → (nodeOf (recordOf s h) ≡ node0 e) × (h .size ≡ length (encode e)) × (1 ≡ records e)
+  alone none =
+      let f = fill-none (node-filled refl) (arity-is (recordOf s h) ∙ sym none) in
+      (f .0, omega (arith, used-is, ap (λ es. length (encodeAll es)) (f .1)), omega (arith, records-is e, ap recordsAll (f .1)))
+
+-- ## The walk over it
 
 module _ {s xs : List ℕ} {levels last top a : ℕ} (place : ℕ) (q : Ready s levels place last top a xs) {h : Head} (k : Headed s (q .term) (q .text .more) h) where
   abbrev pub node : Node
@@ -142,52 +164,49 @@ module _ {s xs : List ℕ} {levels last top a : ℕ} (place : ℕ) (q : Ready s 
   e = q .term
 
   pub some-left : 1 ≤ levels
-  some-left = omega (arith, depth-is e, q .text .deep)
-
-  pub filled : {n : Node} → node ≡ n → Fill n (kids e) e
-  filled i = subst (λ n. Fill n (kids e) e) i (subst (λ r. Fill (nodeOf r) (kids e) e) (sym (k .same)) (own-node e .1))
-
-  pub kids-text : TermsAt s (h .size) (levels - 1) (place + 1) (kids e)
-  kids-text =
-      record {
-        more = q .text .more;
-        start = k .inside;
-        bytes = k .behind;
-        fits = fits-is e .0 (q .text .fits) .1;
-        deep = omega (arith, depth-is e, q .text .deep);
-        low = omega (arith, records-is e, q .text .low);
-      }
+  some-left = levels-left e (q .text) k
 
   pub kids-stack : Stack xs last top a (levels - 1 + 1) (q .env)
   kids-stack = stack-moved (q .stack) (kept-all last xs) (omega arith) (q .stack .below) (omega (arith, some-left))
 
-  used-is : h .size + length (encodeAll (kids e)) ≡ length (encode e)
-  used-is = omega (arith, k .size, length-is e)
+  abbrev Told : ℕ → List ℕ → Walked → Expr → ℕ → ℕ → Type 0
+  Told l ys r e used next = WalkedAs (desugar (q .env) e place (left a)) used next top a l xs ys r
 
   abbrev Term : List ℕ → Walked → Type 0
-  Term ys r = WalkedAs (desugar (q .env) e place (left a)) (length (encode e)) (place + records e) top a levels xs ys r
+  Term ys r = Told levels ys r e (length (encode e)) (place + records e)
 
-  abbrev pub one-asked : {f : Expr → Expr} → node ≡ node1 f → ReadyOne s (h .size) (levels - 1) place last top a xs
-  one-asked n = one-ready s xs (h .size) (levels - 1) last top a place (q .env) (filled n) kids-text kids-stack
+  deeper : (ys : List ℕ) (r : Walked) → Told (levels - 1 + 1) ys r e (length (encode e)) (place + records e) → Term ys r
+  deeper ys r = subst (λ l. Told l ys r e (length (encode e)) (place + records e)) (omega (arith, some-left))
 
-  abbrev pub two-asked : {f : Expr → Expr → Expr} → node ≡ node2 f → ReadyTwo s (h .size) (levels - 1) place last top a xs
-  two-asked n = two-ready s xs (h .size) (levels - 1) last top a place (q .env) (filled n) kids-text kids-stack
+  pub one-asked : {f : Expr → Expr} → node ≡ node1 f → ReadyOne s (h .size) (levels - 1) place last top a xs
+  one-asked n =
+      one-kid e (q .text) k (λ _ _ _. ReadyOne s (h .size) (levels - 1) place last top a xs) n
+      (λ b t. record { first = b; env = q .env; text = t; stack = kids-stack })
 
-  abbrev pub three-asked : {f : Expr → Expr → Expr → Expr} → node ≡ node3 f → ReadyThree s (h .size) (levels - 1) place last top a xs
-  three-asked n = three-ready s xs (h .size) (levels - 1) last top a place (q .env) (filled n) kids-text kids-stack
+  pub two-asked : {f : Expr → Expr → Expr} → node ≡ node2 f → ReadyTwo s (h .size) (levels - 1) place last top a xs
+  two-asked n =
+      two-kids e (q .text) k (λ _ _ _. ReadyTwo s (h .size) (levels - 1) place last top a xs) n
+      (λ b c t. record { first = b; second = c; env = q .env; text = t; stack = kids-stack })
+
+  pub three-asked : {f : Expr → Expr → Expr → Expr} → node ≡ node3 f → ReadyThree s (h .size) (levels - 1) place last top a xs
+  three-asked n =
+      three-kids e (q .text) k (λ _ _ _. ReadyThree s (h .size) (levels - 1) place last top a xs) n
+      (λ b c d t. record { first = b; second = c; third = d; env = q .env; text = t; stack = kids-stack })
 
   pub one-done : {f : Expr → Expr} (ys : List ℕ) (r : Walked) → node ≡ node1 f
       → ((p : ReadyOne s (h .size) (levels - 1) place last top a xs)
       → WalkedAs (desugar (p .env) (f (p .first)) place (left a)) (h .size + length (encode (p .first))) (place + 1 + records (p .first)) top a (levels - 1 + 1) xs ys r)
       → Term ys r
-  one-done ys r n = one-told s xs (h .size) (levels - 1) last top a place (q .env) levels ys r (filled n) kids-text kids-stack (omega (arith, some-left)) used-is (sym (records-is e))
+  one-done ys r n v =
+      deeper ys r (one-kid e (q .text) k (Told (levels - 1 + 1) ys r) n (λ b t. v (record { first = b; env = q .env; text = t; stack = kids-stack })))
 
   pub two-done : {f : Expr → Expr → Expr} (ys : List ℕ) (r : Walked) → node ≡ node2 f
       → ((p : ReadyTwo s (h .size) (levels - 1) place last top a xs)
       → WalkedAs (desugar (p .env) (f (p .first) (p .second)) place (left a)) (h .size + length (encodeAll (p .first ∷ p .second ∷ [])))
       (place + 1 + records (p .first) + records (p .second)) top a (levels - 1 + 1) xs ys r)
       → Term ys r
-  two-done ys r n = two-told s xs (h .size) (levels - 1) last top a place (q .env) levels ys r (filled n) kids-text kids-stack (omega (arith, some-left)) used-is (sym (records-is e))
+  two-done ys r n v =
+      deeper ys r (two-kids e (q .text) k (Told (levels - 1 + 1) ys r) n (λ b c t. v (record { first = b; second = c; env = q .env; text = t; stack = kids-stack })))
 
   pub three-done : {f : Expr → Expr → Expr → Expr} (ys : List ℕ) (r : Walked) → node ≡ node3 f
       → ((p : ReadyThree s (h .size) (levels - 1) place last top a xs)
@@ -195,7 +214,8 @@ module _ {s xs : List ℕ} {levels last top a : ℕ} (place : ℕ) (q : Ready s 
       (h .size + length (encodeAll (p .first ∷ p .second ∷ p .third ∷ [])))
       (place + 1 + records (p .first) + records (p .second) + records (p .third)) top a (levels - 1 + 1) xs ys r)
       → Term ys r
-  three-done ys r n = three-told s xs (h .size) (levels - 1) last top a place (q .env) levels ys r (filled n) kids-text kids-stack (omega (arith, some-left)) used-is (sym (records-is e))
+  three-done ys r n v =
+      deeper ys r (three-kids e (q .text) k (Told (levels - 1 + 1) ys r) n (λ b c d t. v (record { first = b; second = c; third = d; env = q .env; text = t; stack = kids-stack })))
 
   -- ## A leaf
 
@@ -203,7 +223,7 @@ module _ {s xs : List ℕ} {levels last top a : ℕ} (place : ℕ) (q : Ready s 
   leaf-ready =
       record {
         inside = k .found;
-        kind = omega (arith, k .kind, own-node e .0 (fits-is e .0 (q .text .fits) .0) .kind);
+        kind = kind-low e (q .text) k;
         low = omega (arith, records-is e, q .text .low);
         env = q .env;
         bound = q .stack .bound;
@@ -217,7 +237,7 @@ module _ {s xs : List ℕ} {levels last top a : ℕ} (place : ℕ) (q : Ready s 
       → WalkedAs (desugar env e place (left a)) (h .size) (place + 1) top a 0 xs ys r)
       → Term ys r
   leaf-done ys r none v =
-      let f = fill-none (filled refl) (arity-is (recordOf s h) ∙ sym none) in
+      let f = alone e (q .text) k none in
       wider (desugar (q .env) e place (left a)) (desugar (q .env) e place (left a)) (length (encode e)) (h .size) (place + records e) (place + 1) top top a a levels 0 xs xs ys r
-      refl (omega (arith, used-is, ap (λ es. length (encodeAll es)) (f .1))) (omega (arith, records-is e, ap recordsAll (f .1))) (omega arith) (omega arith) (omega arith) (kept-all top xs)
+      refl (f .1) (omega (arith, f .2)) (omega arith) (omega arith) (omega arith) (kept-all top xs)
       (v e (q .env) (f .0) (q .stack .bound))

@@ -10,9 +10,9 @@ use lib.ListN.{length, getD}
 use lib.Seq.{sets}
 use borrow.Author.Tests.{eq-eqb, eqb-true}
 use Rattle.literals.proofs.Logic.{and-left, and-right}
-use Rattle.expr.specs.Terms.{Core, Name}
+use Rattle.expr.specs.Terms.{Core}
 use Rattle.desugar.specs.Bindings.{Env, variable, range, lookupVariable, lookupAlias}
-use Rattle.desugar.specs.Memory.{Holds, Kept, Lies}
+use Rattle.desugar.specs.Memory.{Kept, Lies}
 use Rattle.desugar.specs.BindingWords.{Frame, FrameRoom, VariableFrame, Bound, VariableEnd, AliasEnd, Ends, VariableTold}
 use Rattle.desugar.specs.declared.bindings.Variable.the-variants.{At, Unbound}
 use Rattle.desugar.proofs.Regions.{same-at, left, moved, stored, kept-sets, kept-holds, length-words}

@@ -25,7 +25,7 @@ use Rattle.desugar.proofs.WalkSteps.{after}
 
 -- ## The condition and the first branch
 
-triple-long : (a b c : Expr) → length (encodeAll (a ∷ b ∷ c ∷ [])) ≡ length (encode a) + length (encode b) + length (encode c)
+pub triple-long : (a b c : Expr) → length (encodeAll (a ∷ b ∷ c ∷ [])) ≡ length (encode a) + length (encode b) + length (encode c)
 triple-long a b c =
     omega (arith, length-append (encode a) (encodeAll (b ∷ c ∷ [])), length-append (encode b) (encodeAll (c ∷ [])), length-append (encode c) [])
 

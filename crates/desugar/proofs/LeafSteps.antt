@@ -11,7 +11,7 @@ use lib.Seq.{length-take-le, sets}
 use Rattle.literals.proofs.Bytes.{length-unpack}
 use Rattle.literals.specs.Bits.{bit, unpack}
 use Rattle.literals.specs.Reading.{bytesFor}
-use Rattle.expr.specs.Answers.{Answer, ok, refuse}
+use Rattle.expr.specs.Answers.{Answer, andThen, ok, refuse}
 use Rattle.expr.specs.Terms.{Core, Name, Ranged, Use, Var, Where, leaf, size}
 use Rattle.expr.specs.Records.{Record}
 use Rattle.expr.specs.Results.{HeadInside, recordOf}
@@ -19,14 +19,14 @@ use Rattle.expr.specs.declared.records.Head.{Head}
 use Rattle.expr.specs.declared.records.HeadRead.the-variants as head
 use Rattle.expr.proofs.Slices.{part, part-is}
 use Rattle.desugar.specs.Bindings.{Env, findRange, lookupAlias, lookupVariable}
-use Rattle.desugar.specs.Meter.{Meter, drawing, left}
-use Rattle.desugar.specs.Rules.{rangeRule}
+use Rattle.desugar.specs.Meter.{Meter, _>>=_, drawing, left, lift}
+use Rattle.desugar.specs.Rules.{knownRange, rangeRule}
 use Rattle.desugar.specs.Leaves.{useCore}
 use Rattle.desugar.specs.Desugar.{desugar}
 use Rattle.desugar.specs.Memory.{Holds, Kept, Lies, words}
 use Rattle.desugar.specs.BindingWords.{VariableTold}
 use Rattle.desugar.specs.WalkWords.{Came, WalkedAs}
-use Rattle.desugar.specs.RangedWords.{Literals, atomOf, rangeUse, recordWith, ruleAnswer}
+use Rattle.desugar.specs.RangedWords.{Literals, atomOf, judgedRange, recordWith, ruleAnswer, useDrawn}
 use Rattle.desugar.specs.declared.bindings.Variable.{Variable}
 use Rattle.desugar.specs.declared.bindings.Variable.the-variants as variable-found
 use Rattle.desugar.specs.declared.went.Walked.{Walked}
@@ -132,24 +132,60 @@ module _ (env : Env Core) (x : Name) (at : ℕ) (k : Meter) where
 
 -- ## A use of a range
 
-module _ (env : Env Core) (w : Where) (u : Use) (at : ℕ) (k : Meter) where
-  pub range-unknown : findRange env w ≡ none → desugar env (Ranged w u) at k ≡ refuse 11 at
+abbrev rangeIn : Answer (ℕ × ℕ) → ℕ × ℕ
+rangeIn (ok r) = r
+rangeIn (refuse n p) = (0, 0)
+
+abbrev isRefusal : Answer (ℕ × ℕ) → ℕ
+isRefusal (ok r) = 0
+isRefusal (refuse n p) = 1
+
+module _ (env : Env Core) (w : Where) (u : Use) (at : ℕ) where
+  pub range-unknown : findRange env w ≡ none → judgedRange env w u at ≡ refuse 11 at
   range-unknown e = rw e refl
 
-  pub range-known : (r : ℕ × ℕ) → findRange env w ≡ some r → desugar env (Ranged w u) at k ≡ rangeUse w u r at k
-  range-known r e = rw e refl
+  module _ (r : ℕ × ℕ) (rule : ℕ) (known : findRange env w ≡ some r) (judged : ruleAnswer rule at ≡ rangeRule w u r at) where
+    pub rule-broken : (rule ≡ 0 → ⊥) → judgedRange env w u at ≡ refuse rule at
+    rule-broken h =
+        let q : rangeRule w u r at ≡ refuse rule at = sym judged ∙ rw (ne-eqb rule 0 h) refl in
+        rw (known, q) refl
 
-module _ (w : Where) (u : Use) (s e rule at : ℕ) (k : Meter) (judged : ruleAnswer rule at ≡ rangeRule w u (s, e) at) where
-  pub use-refused : (rule ≡ 0 → ⊥) → rangeUse w u (s, e) at k ≡ refuse rule at
-  use-refused h =
-      let q : rangeRule w u (s, e) at ≡ refuse rule at = sym judged ∙ rw (ne-eqb rule 0 h) refl in
-      rw q refl
+    pub rules-kept : rule ≡ 0 → judgedRange env w u at ≡ ok r
+    rules-kept h =
+        let q : rangeRule w u r at ≡ ok tt = sym judged ∙ rw h refl in
+        rw (known, q) refl
 
-  pub use-drawn : (n : ℕ) → n ≡ e - s → rule ≡ 0 → rangeUse w u (s, e) at k ≡ drawing (size (useCore u s n)) at (useCore u s n) k
-  use-drawn n f h =
-      let q : rangeRule w u (s, e) at ≡ ok tt = sym judged ∙ rw h refl in
-      let first : rangeUse w u (s, e) at k ≡ drawing (size (useCore u s (e - s))) at (useCore u s (e - s)) k = rw q refl in
-      first ∙ ap (λ m. drawing (size (useCore u s m)) at (useCore u s m) k) (sym f)
+  -- a refusal stops the desugaring; else what is left is the draw
+  pub range-stops : (k : Meter) {n p : ℕ} → judgedRange env w u at ≡ refuse n p → desugar env (Ranged w u) at k ≡ refuse n p
+  range-stops k {n} {p} e = go (findRange env w) e
+    where
+      after : (r : ℕ × ℕ) (x : Answer (Unit {0})) → andThen x (λ _. ok r) ≡ refuse n p → (lift x >>= λ _. useDrawn u r at) k ≡ refuse n p
+      after r (ok t) h = let z : _≡_ {A = ℕ} 0 1 = ap isRefusal h in absurd (omega arith)
+      after r (refuse m q) h = let a : m ≡ n = cc in let b : q ≡ p = cc in λ i. refuse (a i) (b i)
+
+      go : (o : Option (ℕ × ℕ)) → andThen (knownRange o at) (λ r. andThen (rangeRule w u r at) (λ _. ok r)) ≡ refuse n p
+          → (lift (knownRange o at) >>= λ r. lift (rangeRule w u r at) >>= λ _. useDrawn u r at) k ≡ refuse n p
+      go (some r) h = after r (rangeRule w u r at) h
+      go none h = let a : _≡_ {A = ℕ} 11 n = cc in let b : at ≡ p = cc in λ i. refuse (a i) (b i)
+
+  pub range-drawn : (k : Meter) {r : ℕ × ℕ} → judgedRange env w u at ≡ ok r → (rangeRule w u r at ≡ ok tt) × (desugar env (Ranged w u) at k ≡ useDrawn u r at k)
+  range-drawn k {r} e = go (findRange env w) e
+    where
+      after : (p : ℕ × ℕ) (x : Answer (Unit {0})) → rangeRule w u p at ≡ x → andThen x (λ _. ok p) ≡ ok r
+          → (rangeRule w u r at ≡ ok tt) × ((lift x >>= λ _. useDrawn u p at) k ≡ useDrawn u r at k)
+      after p (ok t) f h =
+          let same : p ≡ r = ap rangeIn h in
+          (ap (λ (z : ℕ × ℕ). rangeRule w u z at) (sym same) ∙ f, ap (λ (z : ℕ × ℕ). useDrawn u z at k) same)
+      after p (refuse m q) f h = let z : _≡_ {A = ℕ} 1 0 = ap isRefusal h in absurd (omega arith)
+
+      go : (o : Option (ℕ × ℕ)) → andThen (knownRange o at) (λ r. andThen (rangeRule w u r at) (λ _. ok r)) ≡ ok r
+          → (rangeRule w u r at ≡ ok tt) × ((lift (knownRange o at) >>= λ r. lift (rangeRule w u r at) >>= λ _. useDrawn u r at) k ≡ useDrawn u r at k)
+      go (some p) h = after p (rangeRule w u p at) refl h
+      go none h = let z : _≡_ {A = ℕ} 1 0 = ap isRefusal h in absurd (omega arith)
+
+-- n fields from s up to e
+pub fields-drawn : (u : Use) (s e n at : ℕ) (k : Meter) → n ≡ e - s → useDrawn u (s, e) at k ≡ drawing (size (useCore u s n)) at (useCore u s n) k
+fields-drawn u s e n at k f = ap (λ m. drawing (size (useCore u s m)) at (useCore u s m) k) (sym f)
 
 -- ## A record's literals
 

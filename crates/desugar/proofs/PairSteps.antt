@@ -47,7 +47,7 @@ pub second-between : (b : Bool) {r top end : ℕ} → r ≡ cond b top end → t
 second-between true e h = (omega arith, omega arith)
 second-between false e h = (omega arith, omega arith)
 
-pair-long : (a b : Expr) → length (encodeAll (a ∷ b ∷ [])) ≡ length (encode a) + length (encode b)
+pub pair-long : (a b : Expr) → length (encodeAll (a ∷ b ∷ [])) ≡ length (encode a) + length (encode b)
 pair-long a b = omega (arith, length-append (encode a) (encodeAll (b ∷ [])), length-append (encode b) [])
 
 module _ {s xs : List ℕ} {from l last top a : ℕ} (place : ℕ) (q : ReadyTwo s from l place last top a xs) where

@@ -7,7 +7,7 @@ use Prim.Native.Nat.{ℕ, _+_, _-_, _^_, _≤_, _<_}
 use native.Mathlib.Nat.{lt-of-lt-of-le, pow-le-pow-right}
 use native.Mathlib.Omega.{arith}
 use native.Mathlib.Decide.{decLt}
-use lib.ListN.{length, getD}
+use lib.ListN.{length}
 use lib.Seq.{ext-getD}
 use Rattle.literals.specs.Bits.{Bits, bitAt, bitsOf, pad, valueOf}
 use Rattle.literals.specs.Patterns.{Cidr, Exact, HoldsOf, IpRange, Pattern, Wildcard}

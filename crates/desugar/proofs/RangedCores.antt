@@ -12,12 +12,12 @@ use Rattle.expr.specs.Terms.{Assign, Core, Intersect, Matches, One, Sequence, T
 use Rattle.expr.specs.Records.{Record}
 use Rattle.expr.specs.Form.{patternOf}
 use Rattle.expr.specs.declared.records.Head.{Head}
-use Rattle.desugar.specs.Rules.{patternRule, rangeRule, useRule}
+use Rattle.desugar.specs.Rules.{patternRule, useRule}
 use Rattle.desugar.specs.Leaves.{between, chain, eachBit, maskedTests, useCore}
 use Rattle.desugar.specs.LeafWords.{betweenSize, chainSize, clear, stretch}
 use Rattle.desugar.specs.Memory.{words}
 use Rattle.desugar.specs.WalkWords.{useOf, whereOf}
-use Rattle.desugar.specs.RangedWords.{Literals, UseKept, recordWith, ruleAnswer}
+use Rattle.desugar.specs.RangedWords.{RangeKept, UseKept, recordWith}
 use Rattle.desugar.proofs.RuleLaws.{range-kept, literal-kept, exact-kept, cidr-kept, wildcard-kept, values-kept}
 use Rattle.desugar.proofs.LeafKinds.{kinds-in, of, cidr-is, wildcard-is, values-is, exact-is, literal-use, assigns-is, tests-is}
 use Rattle.desugar.proofs.UseCores.{Leaf, assigns-leaf, tests-leaf, exact-leaf, cidr-leaf, wildcard-leaf, range-leaf}
@@ -98,13 +98,12 @@ module _ (h : Record) (w : Where) (n : ℕ) (rule : useRule w (useOf h) n 0 ≡ 
 -- ## A use that keeps the rules
 
 -- no rule on the range from s up to e, of n fields, is broken
-pub use-kept : (a b : List ℕ) (h : Head) (s e n rule : ℕ) → Literals a b h → rule ≡ 0
-    → ruleAnswer rule 0 ≡ rangeRule (whereOf (recordWith a b h)) (useOf (recordWith a b h)) (s, e) 0 → n ≡ e - s → e < 2 ^ 32 → UseKept a b h n
-use-kept a b h s e n rule l z judged f small =
+pub use-kept : (a b : List ℕ) (h : Head) (s e n : ℕ) → RangeKept a b h s e → n ≡ e - s → e < 2 ^ 32 → UseKept a b h n
+use-kept a b h s e n k f small =
     let w = whereOf (recordWith a b h) in
     let u = useOf (recordWith a b h) in
     record {
-      literals = l;
-      rule = subst (λ (m : ℕ). useRule w u m 0 ≡ ok tt) (sym f) (range-kept w u s e rule z judged .1);
+      literals = k .literals;
+      rule = subst (λ (m : ℕ). useRule w u m 0 ≡ ok tt) (sym f) (range-kept w u s e (k .rule) .1);
       few = omega arith;
     }

@@ -8,7 +8,7 @@ use lib.Dec.{leb, eqb}
 use lib.ListN.{length}
 use Rattle.literals.specs.Bits.{Bits, valueOf}
 use Rattle.literals.specs.Patterns.{Cidr, Exact, IpRange, Pattern, Wildcard}
-use Rattle.expr.specs.Answers.{Answer, andThen, need, ok, refuse}
+use Rattle.expr.specs.Answers.{Answer, need, ok, refuse}
 use Rattle.expr.specs.Terms.{Alias, Assigns, Binary, Core, Direct, Expr, IfThenElse, Let, LetBitRange, Matches, Plain, Ranged, Sequence, TestNegation, Tests, Unary, Union, Use, Var, Where, leaf, one, records, size, two}
 use Rattle.expr.proofs.Places.{Placed, placed-then, placed-need, placed-within}
 use Rattle.desugar.specs.Bindings.{Env, variable, range, findRange, lookupAlias, lookupVariable}

@@ -15,7 +15,7 @@ use Rattle.literals.specs.declared.Order.the-variants.{Above, Below, Equal}
 use Rattle.expr.specs.Answers.{Answer, andThen, need, ok, refuse}
 use Rattle.expr.specs.Terms.{Alias, Direct, Use, Where}
 use Rattle.desugar.specs.Rules.{literalRule, patternRule, rangeRule, useRule}
-use Rattle.desugar.specs.RangedWords.{isDirect, ruleAnswer}
+use Rattle.desugar.specs.RangedWords.{isDirect}
 
 -- ## A literal
 
@@ -138,8 +138,7 @@ values-kept a b n h =
       leb-true (length b) n (and-right (leb n 128 && leb (length a) n) (leb (length b) n) r),
     )
 
-pub range-kept : (w : Where) (u : Use) (s e rule : ℕ) → rule ≡ 0 → ruleAnswer rule 0 ≡ rangeRule w u (s, e) 0 → (s ≤ e) × (useRule w u (e - s) 0 ≡ ok tt)
-range-kept w u s e rule z h =
-    let kept : rangeRule w u (s, e) 0 ≡ ok tt = sym h ∙ rw z refl in
+pub range-kept : (w : Where) (u : Use) (s e : ℕ) → rangeRule w u (s, e) 0 ≡ ok tt → (s ≤ e) × (useRule w u (e - s) 0 ≡ ok tt)
+range-kept w u s e kept =
     let r = both (leb s e) 14 0 (useRule w u (e - s) 0) kept in
     (leb-true s e (r .0), r .1)

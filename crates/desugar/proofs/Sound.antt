@@ -1,13 +1,11 @@
 -- Desugaring keeps the meaning: where it succeeds, with or without limit, the core relates the packets that the written term relates.
-use mathlib.Core.Path.{_≡_, refl, sym, subst, ap, _∙_}
+use mathlib.Core.Path.{_≡_, refl, sym, subst, ap}
 use mathlib.Core.Logic.{_⊎_, inl, inr, _↔_, Iff·trans, Iff·rfl}
 use mathlib.Core.Bool.{Bool, true, false, cond, false≢true}
 use mathlib.Core.Option.{Option, none, some, Option·getD}
-use mathlib.Core.List.{List, [], _∷_}
-use Prim.Native.Nat.{ℕ, _+_, _-_, _≤_}
-use native.Mathlib.Omega.{arith}
+use mathlib.Core.List.{[], _∷_}
+use Prim.Native.Nat.{ℕ, _+_, _-_}
 use lib.Dec.{leb, eqb}
-use lib.ListN.{length}
 use Rattle.expr.specs.Answers.{Answer, andThen, ok, refuse}
 use Rattle.expr.specs.Terms.{Alias, Assign, Binary, Complement, Core, Difference, Direct, Dup, End, Expr, IfThenElse, Intersect, Let, LetBitRange, LtlNext, LtlUntil, Name, One, Op1, Op2, Plain, Ranged, Sequence, Star, Test, TestNegation, Top, Unary, Union, Use, Var, Where, Xor, Zero, leaf, one, op1Kind, op2Kind, records, size, two}
 use Rattle.desugar.specs.Bindings.{Env, lookupAlias, lookupVariable, range, variable}

@@ -1,8 +1,7 @@
 -- A test relates a packet to itself or not, and which can be computed. So negation is right with no excluded middle.
-use mathlib.Core.Path.{_≡_, refl, sym, subst, ap, ap₂, _∙_}
-use mathlib.Core.Logic.{_⊎_, inl, inr, _↔_, Iff·trans}
-use mathlib.Core.Bool.{Bool, true, false, cond, not, _&&_, _||_, Bool·beq, false≢true, true≢false}
-use Prim.Native.Nat.{ℕ}
+use mathlib.Core.Path.{_≡_, refl, sym, ap, ap₂, _∙_}
+use mathlib.Core.Logic.{_⊎_, inl, inr, _↔_}
+use mathlib.Core.Bool.{Bool, true, false, cond, not, _&&_, _||_, Bool·beq, false≢true}
 use Rattle.literals.proofs.Logic.{and-both, and-left, and-right, beq-is, or-cases, or-left, or-right}
 use Rattle.expr.specs.Terms.{Assign, Atom, Core, Difference, Dup, End, Intersect, LtlUntil, One, Op2, Sequence, Test, Top, Union, Xor, Zero, atomKind, leaf, one, op2Kind, testKind, two}
 use Rattle.desugar.specs.Negation.{again, isOne, isTest, join, negate}

@@ -1,5 +1,5 @@
 -- Bindings (document 01, "Walking rules"), and Subrange.
-use mathlib.Core.{Bool.Bool, Bool.cond, Bool._&&_, Option.Option, Option.none, Option.some, List.List, List.[], List._∷_}
+use mathlib.Core.{Bool.cond, Bool._&&_, Option.Option, Option.none, Option.some, List.List, List.[], List._∷_}
 use Prim.Native.Nat.{ℕ, _+_, _^_}
 use lib.{Dec.leb, Dec.ltb, Dec.eqb}
 use Rattle.expr.specs.{Answers.Answer, Answers.ok, Answers.refuse, Answers.andThen, Answers.need, Terms.Name, Terms.Where, Terms.Direct, Terms.Alias}

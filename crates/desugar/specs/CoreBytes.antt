@@ -1,7 +1,7 @@
 -- The bytes of a core that lies in work memory: the words of the contracts of src/core_bytes.rt.
 use mathlib.Core.{Path._≡_, List.List, List.[], List._++_}
 use Prim.Native.Nat.{ℕ, zero, suc, _+_, _*_, _≤_}
-use lib.{ListN.length, ListN.getD, ListN.drop, Seq.sets}
+use lib.{ListN.length, ListN.getD, Seq.sets}
 use Rattle.expr.specs.{Terms.Core, Records.Record, Records.writeRecord, Form.encodeCore}
 use Rattle.desugar.specs.{Memory.Lies}
 

@@ -1,5 +1,5 @@
 -- Cores in work memory (document 01, "Forms that give way": "records in lent numbers").
-use mathlib.Core.{Path._≡_, Logic._⊎_, Bool.Bool, List.List, List.[], List._∷_, List._++_}
+use mathlib.Core.{Path._≡_, Logic._⊎_, List.List, List.[], List._∷_, List._++_}
 use Prim.Native.Nat.{ℕ, _+_, _≤_, _<_}
 use lib.{ListN.length, ListN.getD}
 use Rattle.literals.specs.{Bits.bit}

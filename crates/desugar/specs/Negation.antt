@@ -1,5 +1,5 @@
 -- Sequence's dropping, tests among cores, and their negation (document 01, "Walking rules").
-use mathlib.Core.{Bool.Bool, Bool.true, Bool.false, Bool.cond, Bool.not, Bool._&&_, Bool._||_}
+use mathlib.Core.{Bool.Bool, Bool.false, Bool.cond, Bool.not, Bool._&&_, Bool._||_}
 use Prim.Native.Nat.{ℕ}
 use lib.{Dec.eqb}
 use Rattle.expr.specs.{Terms.Atom, Terms.Zero, Terms.One, Terms.Top, Terms.Dup, Terms.End, Terms.Assign, Terms.Test, Terms.Op2, Terms.Union, Terms.Intersect, Terms.Xor, Terms.Difference, Terms.Sequence, Terms.LtlUntil, Terms.Core, Terms.leaf, Terms.one, Terms.two, Terms.atomKind, Terms.op2Kind, Terms.testKind}

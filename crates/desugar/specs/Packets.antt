@@ -1,8 +1,8 @@
 -- What terms and cores mean: relations between packets (document 01, "Packet meaning").
-use mathlib.Core.{Path._≡_, Logic._⊎_, Bool.Bool, Bool.true, Bool.false, Bool.cond, Bool.not, Bool._&&_, Bool._||_, Option.Option, Option.none, Option.some, Option.Option·getD, List.List, List.[], List._∷_}
+use mathlib.Core.{Path._≡_, Logic._⊎_, Bool.Bool, Bool.true, Bool.cond, Bool.not, Bool._&&_, Bool._||_, Option.Option, Option.none, Option.some, Option.Option·getD, List.[], List._∷_}
 use Prim.Native.Nat.{ℕ, zero, suc, _+_, _-_}
 use lib.{Dec.leb, Dec.ltb, Dec.eqb}
-use Rattle.literals.specs.{Bits.Bits, Bits.valueOf, Bits.bitAt, Patterns.Pattern, Patterns.HoldsOf}
+use Rattle.literals.specs.{Bits.Bits, Bits.valueOf, Bits.bitAt, Patterns.HoldsOf}
 use Rattle.expr.specs.{Terms.Atom, Terms.Zero, Terms.One, Terms.Top, Terms.Dup, Terms.End, Terms.Assign, Terms.Test, Terms.Op2, Terms.Union, Terms.Intersect, Terms.Xor, Terms.Difference, Terms.Sequence, Terms.LtlUntil, Terms.Op1, Terms.Complement, Terms.Star, Terms.LtlNext, Terms.Core, Terms.leaf, Terms.one, Terms.two, Terms.Use, Terms.Assigns, Terms.Tests, Terms.Matches, Terms.Expr, Terms.Plain, Terms.Unary, Terms.Binary, Terms.TestNegation, Terms.IfThenElse, Terms.Let, Terms.LetBitRange, Terms.Var, Terms.Ranged, Terms.atomKind, Terms.op1Kind, Terms.op2Kind}
 use Rattle.desugar.specs.{Bindings.Env, Bindings.variable, Bindings.range, Bindings.lookupVariable, Bindings.findRange}
 

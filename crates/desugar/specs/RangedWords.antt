@@ -3,9 +3,12 @@ use mathlib.Core.{Path._≡_, Bool.Bool, Bool.true, Bool.false, Bool.cond, List.
 use Prim.Native.Nat.{ℕ, _+_, _-_, _*_, _^_, _≤_, _<_}
 use lib.{Dec.eqb, ListN.length, ListN.getD, ListN.take}
 use Rattle.literals.specs.{Bits.unpack}
-use Rattle.expr.specs.{Answers.Answer, Answers.ok, Answers.refuse, Terms.Atom, Terms.Zero, Terms.One, Terms.Top, Terms.Dup, Terms.End, Terms.Assign, Terms.Test, Terms.Core, Terms.Where, Terms.Direct, Terms.Alias, Terms.Use, Terms.size, Records.Record, Form.maxRecords, Form.patternOf}
+use Rattle.expr.specs.{Answers.Answer, Answers.ok, Answers.refuse, Answers.andThen, Terms.Atom, Terms.Zero, Terms.One, Terms.Top, Terms.Dup, Terms.End, Terms.Assign, Terms.Test, Terms.Core, Terms.Where, Terms.Direct, Terms.Alias, Terms.Use, Terms.size, Records.Record, Form.maxRecords, Form.patternOf, Results.HeadInside}
 use Rattle.expr.specs.declared.records.Head.{Head}
-use Rattle.desugar.specs.{Bindings.Env, Meter.Draws, Meter._>>=_, Meter.lift, Meter.drawing, Rules.maxRangeBits, Rules.patternRule, Rules.useRule, Rules.rangeRule, Leaves.useCore, BindingWords.Bound, WalkWords.whereOf, WalkWords.useOf}
+use Rattle.expr.specs.declared.records.HeadRead.the-variants as head
+use Rattle.desugar.specs.{Bindings.Env, Bindings.findRange, Meter.Draws, Meter.drawing, Rules.knownRange, Rules.maxRangeBits, Rules.patternRule, Rules.useRule, Rules.rangeRule, Leaves.useCore, BindingWords.Bound, WalkWords.whereOf, WalkWords.useOf}
+use Rattle.desugar.specs.declared.ranged.Judged.{Judged}
+use Rattle.desugar.specs.declared.ranged.Judged.the-variants as judged
 
 -- ## Records
 
@@ -54,6 +57,25 @@ pub record UseKept (a b : List ℕ) (h : Head) (n : ℕ) : Type 0 where
   pub rule : useRule (whereOf (recordWith a b h)) (useOf (recordWith a b h)) n 0 ≡ ok tt
   pub few : n < 2 ^ 32
 
+-- a use of the fields from start up to end that keeps the rules
+pub record RangeKept (a b : List ℕ) (h : Head) (start end : ℕ) : Type 0 where
+  pub literals : Literals a b h
+  pub rule : rangeRule (whereOf (recordWith a b h)) (useOf (recordWith a b h)) (start, end) 0 ≡ ok tt
+
+-- a record that was read from the bytes s, and the bindings
+pub record RangeReady (s : List ℕ) (h : Head) (last : ℕ) (xs : List ℕ) : Type 0 where
+  pub inside : HeadInside s (head.Found h)
+  pub env : Env Core
+  pub bound : Bound xs last env
+
+-- the range of a use that keeps the rules 11 and 14 to 21
+abbrev pub judgedRange : Env Core → Where → Use → ℕ → Answer (ℕ × ℕ)
+judgedRange env w u at = andThen (knownRange (findRange env w) at) λ r. andThen (rangeRule w u r at) λ _. ok r
+
+abbrev pub judgedAnswer : Judged → ℕ → Answer (ℕ × ℕ)
+judgedAnswer (judged.Range s e) at = ok (s, e)
+judgedAnswer (judged.Refused n) at = refuse n at
+
 -- ## Cores
 
 -- the bounds of a range of values fit its width, which may be 0
@@ -67,11 +89,9 @@ pub record UseRoom (xs : List ℕ) (top : ℕ) (u : Use) (start n : ℕ) : Type 
   pub room : top + 3 * size (useCore u start n) ≤ length xs
   pub fields : start + n < 2 ^ 32
 
--- the rules on a use of a range, and its draw
-abbrev pub rangeUse : Where → Use → ℕ × ℕ → ℕ → Draws Core
-rangeUse w u r at =
-    lift (rangeRule w u r at) >>= λ _.
-    drawing (size (useCore u (r .0) (r .1 - r .0))) at (useCore u (r .0) (r .1 - r .0))
+-- the draw of a use of a range
+abbrev pub useDrawn : Use → ℕ × ℕ → ℕ → Draws Core
+useDrawn u r at = drawing (size (useCore u (r .0) (r .1 - r .0))) at (useCore u (r .0) (r .1 - r .0))
 
 -- room for what may be drawn at a record
 pub record DrawRoom (xs : List ℕ) (place top allowance : ℕ) : Type 0 where

@@ -1,5 +1,4 @@
 // Desugar on bytes: the core's bytes, and how much of the allowance was drawn.
-ghost use mathlib.Core.Path.{_≡_};
 ghost use lib.ListN.{length};
 ghost use Rattle.desugar.specs.DesugarBytes.{DesugaredAs, Granted};
 use crate::bindings::Bindings;

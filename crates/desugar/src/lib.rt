@@ -1,13 +1,13 @@
 // Desugaring: from a written policy to one-bit tests and assignments.
 mod between;
-mod bindings;
+pub mod bindings;
 pub mod bytes;
 mod core_bytes;
 mod leaf;
 mod leaves;
 mod masks;
-mod memory;
-mod ranged;
+pub mod memory;
+pub mod ranged;
 mod rules;
 mod test_negation;
 mod walk;

@@ -1,11 +1,10 @@
 // Numbers and records of work memory.
 ghost use mathlib.Core.Path.{_≡_};
 ghost use mathlib.Core.List.{List, [], _∷_};
-ghost use Prim.Native.Nat.{ℕ, _+_, _*_, _≤_};
+ghost use Prim.Native.Nat.{ℕ, _+_, _≤_};
 ghost use lib.ListN.{length};
 ghost use lib.Seq.{sets};
-ghost use Rattle.expr.specs.Terms.{Core};
-ghost use Rattle.desugar.specs.Memory.{Holds, Kept, Lies, CopyRoom};
+ghost use Rattle.desugar.specs.Memory.{Holds, Kept, CopyRoom};
 
 // A number of the work memory, to be used as an offset.
 pub(crate) fn wide(x: u32) -> usize
@@ -15,7 +14,7 @@ pub(crate) fn wide(x: u32) -> usize
 }
 
 // A record of the core.
-pub(crate) fn write_record(work: &mut [u32], at: usize, kind: u32, field: u32, value: u32)
+pub fn write_record(work: &mut [u32], at: usize, kind: u32, field: u32, value: u32)
     requires { ⌜ at + 3 ≤ length (now work) ⌝ }
     ensures { λ r. ⌜ now (work .exit) ≡ sets (now (work .entry)) at (kind ∷ field ∷ value ∷ []) ⌝ }
 {

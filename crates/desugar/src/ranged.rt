@@ -16,7 +16,7 @@ ghost use Rattle.desugar.specs.Memory.{words};
 ghost use Rattle.desugar.specs.LeafWords.{RangeRoom, betweenSize, stretch};
 ghost use Rattle.desugar.specs.BindingWords.{AnyBound, Bound, aliasRange};
 ghost use Rattle.desugar.specs.WalkWords.{LeafReady, WalkedAs, whereOf, useOf};
-ghost use Rattle.desugar.specs.RangedWords.{Bounds, Literals, PatternKept, UseKept, UseRoom, DrawRoom, recordWith, rangeUse};
+ghost use Rattle.desugar.specs.RangedWords.{Bounds, PatternKept, UseKept, UseRoom, DrawRoom, RangeKept, RangeReady, recordWith, useDrawn, judgedRange, judgedAnswer};
 use crate::bindings::Alias;
 use crate::bindings::Bindings;
 use crate::leaves::chain_size;
@@ -25,6 +25,12 @@ use crate::memory::wide;
 use crate::went::Walked;
 use crate::went::Went;
 use expr::records::Head;
+
+// The range of a use that keeps the rules, or the number of the first rule that is broken.
+pub enum Judged {
+    Range(u32, u32),
+    Refused(u8),
+}
 
 // How many records the core of a range of values has, where the range of fields may be empty.
 fn values_size(low: &[u8], low_bits: usize, high: &[u8], high_bits: usize, n: usize) -> u64
@@ -126,7 +132,7 @@ fn write_use(head: Head, a: &[u8], b: &[u8], start: u32, n: usize, work: &mut [u
     }
 }
 
-// The core of a use of the fields from `start` up to `end`: the rules, then the draw.
+// The core of a use of the fields from `start` up to `end`, which keeps the rules: the draw.
 fn use_core(
     head: Head,
     a: &[u8],
@@ -138,14 +144,10 @@ fn use_core(
     top: usize,
     allowance: usize,
 ) -> Walked
-    requires { ⌜ Literals (now a) (now b) head × DrawRoom (now work) place top allowance ⌝ }
-    ensures { λ r. ⌜ WalkedAs (rangeUse (whereOf (recordWith (now (a .entry)) (now (b .entry)) head)) (useOf (recordWith (now (a .entry)) (now (b .entry)) head)) («start», «end») place (left allowance))
+    requires { ⌜ RangeKept (now a) (now b) head «start» «end» × DrawRoom (now work) place top allowance ⌝ }
+    ensures { λ r. ⌜ WalkedAs (useDrawn (useOf (recordWith (now (a .entry)) (now (b .entry)) head)) («start», «end») place (left allowance))
         (head .size) (place + 1) top allowance 0 (now (work .entry)) (now (work .exit)) r ⌝ }
 {
-    let rule = crate::rules::range_rule(head, a, b, start, end);
-    if rule != 0 {
-        return Walked::Refused(rule, place);
-    }
     let n = wide(end - start);
     let size = use_size(head, a, b, n);
     if (allowance as u64) < size {
@@ -174,7 +176,29 @@ fn find_range(head: Head, env: Bindings, work: &[u32]) -> Alias
     }
 }
 
-// The core of a use of a range.
+// The fields that the record `head` of the bytes s names, where its use of them keeps the rules.
+pub fn judged_range(head: Head, s: &[u8], env: Bindings, work: &[u32]) -> Judged
+    requires { ⌜ RangeReady (now s) head (env .last) (now work) ⌝ }
+    ensures { λ r. ⌜ ((ρ : Env Core) (at : ℕ) → Bound (now (work .entry)) (env .last) ρ
+        → judgedAnswer r at ≡ judgedRange ρ (whereOf (recordOf (now (s .entry)) head)) (useOf (recordOf (now (s .entry)) head)) at) ⌝ }
+{
+    let first = head.a.at;
+    let second = head.b.at;
+    match find_range(head, env, work) {
+        Alias::Unbound => Judged::Refused(11),
+        Alias::Range(start, end) => {
+            let a = &s[first..];
+            let b = &s[second..];
+            let rule = crate::rules::range_rule(head, a, b, start, end);
+            if rule != 0 {
+                return Judged::Refused(rule);
+            }
+            Judged::Range(start, end)
+        }
+    }
+}
+
+// The core of a use of a range: the rules, then the draw.
 pub(crate) fn ranged(
     head: Head,
     s: &[u8],
@@ -190,9 +214,9 @@ pub(crate) fn ranged(
 {
     let first = head.a.at;
     let second = head.b.at;
-    match find_range(head, env, work) {
-        Alias::Unbound => Walked::Refused(11, place),
-        Alias::Range(start, end) => {
+    match judged_range(head, s, env, work) {
+        Judged::Refused(number) => Walked::Refused(number, place),
+        Judged::Range(start, end) => {
             let a = &s[first..];
             let b = &s[second..];
             use_core(head, a, b, start, end, place, work, top, allowance)

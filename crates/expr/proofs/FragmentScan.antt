@@ -3,7 +3,7 @@ use mathlib.Core.Path.{_≡_, refl, sym, ap, _∙_}
 use mathlib.Core.Bool.{Bool, true, false, _&&_, and-true, and-assoc}
 use mathlib.Core.List.{List, [], _∷_, _++_}
 use Prim.Native.Nat.{ℕ, _+_, _≤_}
-use lib.ListN.{length, getD}
+use lib.ListN.{length}
 use Rattle.expr.specs.Answers.{ok}
 use Rattle.expr.specs.Terms.{Zero, One, Top, Dup, End, Assign, Test, Complement, Star, LtlNext, Union, Intersect, Xor, Difference, Sequence, LtlUntil, Direct, Alias, Assigns, Tests, Matches, Expr, Plain, Unary, Binary, TestNegation, IfThenElse, Let, LetBitRange, Var, Ranged}
 use Rattle.expr.specs.Form.{decode}

@@ -1,17 +1,16 @@
 -- Where refusals stand: at a record of the term, or right behind its last.
-use mathlib.Core.Path.{_≡_, refl, subst}
+use mathlib.Core.Path.{_≡_, refl}
 use mathlib.Core.Bool.{Bool, true, false}
 use mathlib.Core.List.{List, [], _∷_}
 use Prim.Native.Nat.{ℕ, zero, suc, _+_, _^_, _≤_, _<_, max}
 use native.Mathlib.Omega.{arith}
 use lib.Dec.{ltb}
-use Rattle.literals.specs.Bits.{Bytes}
 use Rattle.literals.specs.Reading.{Read, got, fault}
 use Rattle.literals.proofs.Logic.{leb-is}
 use Rattle.expr.specs.Answers.{Answer, ok, refuse, andThen, mapAnswer, need}
 use Rattle.expr.specs.Terms.{Expr, Plain, Unary, Binary, TestNegation, IfThenElse, Let, LetBitRange, Var, Ranged, Direct, Alias, records}
 use Rattle.expr.specs.Records.{Record, readRecord}
-use Rattle.expr.specs.Form.{maxRecords, maxDepth, Node, node0, node1, node2, node3, nodeOf, Parsed, parsed, children, nodeAt, parse, wholeTerm, decode}
+use Rattle.expr.specs.Form.{maxRecords, maxDepth, Node, node0, node1, node2, node3, nodeOf, Parsed, children, nodeAt, parse, wholeTerm, decode}
 use Rattle.expr.specs.Operations.{atomFields, numFields, raised}
 
 -- a refusal's place is below n

@@ -1,10 +1,10 @@
 -- Scans over the records of a term: what is left of it is a list of terms, and reading a record puts a term's children in its place.
 use mathlib.Core.Path.{_≡_, refl, sym, ap, subst, _∙_}
 use mathlib.Core.List.{List, [], _∷_, _++_, append-assoc, append-nil}
-use Prim.Native.Nat.{ℕ, suc, _+_, _-_, _≤_, _<_}
+use Prim.Native.Nat.{ℕ, _+_, _≤_, _<_}
 use native.Mathlib.Omega.{arith}
-use lib.ListN.{length, take, drop, getD, length-drop}
-use lib.Seq.{drop-drop, take-all}
+use lib.ListN.{length, drop, length-drop}
+use lib.Seq.{drop-drop}
 use Rattle.literals.specs.Bits.{Bytes}
 use Rattle.literals.specs.Reading.{got}
 use Rattle.literals.specs.Patterns.{Pattern, Exact, Cidr, Wildcard, IpRange}

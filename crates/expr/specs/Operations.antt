@@ -2,7 +2,7 @@
 use mathlib.Core.{Bool.Bool, Bool.true, Bool.false, Bool.cond, Bool._&&_, List.List}
 use Prim.Native.Nat.{ℕ, _+_, _^_, max}
 use lib.{Dec.leb, Dec.ltb, Dec.eqb, ListN.length}
-use Rattle.expr.specs.{Answers.Answer, Answers.ok, Answers.refuse, Answers.andThen, Answers.mapAnswer, Answers.need, Terms.Atom, Terms.Zero, Terms.One, Terms.Top, Terms.Dup, Terms.End, Terms.Assign, Terms.Test, Terms.Name, Terms.Where, Terms.Direct, Terms.Alias, Terms.Use, Terms.Assigns, Terms.Tests, Terms.Matches, Terms.Expr, Terms.Plain, Terms.Unary, Terms.Binary, Terms.TestNegation, Terms.IfThenElse, Terms.Let, Terms.LetBitRange, Terms.Var, Terms.Ranged, Terms.atomKind, Terms.op2Kind, Terms.testKind, Terms.records, Terms.depth, Form.maxRecords, Form.maxDepth, Form.decode, Form.encode}
+use Rattle.expr.specs.{Answers.Answer, Answers.ok, Answers.refuse, Answers.andThen, Answers.mapAnswer, Answers.need, Terms.Atom, Terms.Zero, Terms.One, Terms.Top, Terms.Dup, Terms.End, Terms.Assign, Terms.Test, Terms.Name, Terms.Direct, Terms.Alias, Terms.Use, Terms.Assigns, Terms.Tests, Terms.Matches, Terms.Expr, Terms.Plain, Terms.Unary, Terms.Binary, Terms.TestNegation, Terms.IfThenElse, Terms.Let, Terms.LetBitRange, Terms.Var, Terms.Ranged, Terms.atomKind, Terms.op2Kind, Terms.testKind, Terms.records, Terms.depth, Form.maxRecords, Form.maxDepth, Form.decode, Form.encode}
 
 -- `Expr::is_test_fragment`
 abbrev pub isTestUse : Use → Bool

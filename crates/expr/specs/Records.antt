@@ -1,6 +1,6 @@
 -- One record's bytes (document 01, "Term bytes" and "Form").
 use mathlib.Core.{Bool.Bool, Bool.true, Bool.false, Bool.cond, Bool.not, Bool._&&_, Bool._||_, List.List, List.[], List._∷_, List._++_}
-use Prim.Native.Nat.{ℕ, zero, suc}
+use Prim.Native.Nat.{ℕ, zero}
 use lib.{Dec.leb, Dec.eqb, ListN.length, ListN.getD}
 use Rattle.literals.specs.{Bits.Bits, Bits.valueOf, Bits.bitAt, Bits.bytesOf, Reading.Reads, Reading._>>=_, Reading.give, Reading.ask, Reading.byte, Reading.nonzero, Reading.literal, Reading.writeLiteral}
 

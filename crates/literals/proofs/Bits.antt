@@ -3,7 +3,7 @@ use mathlib.Core.Path.{_≡_, refl, sym, ap, _∙_}
 use mathlib.Core.Bool.{Bool, true, false}
 use mathlib.Core.List.{List, [], _∷_, _++_}
 use Prim.Native.Nat.{ℕ, zero, suc, _+_, _-_, _*_, _/_, _%_, _^_, _≤_, _<_}
-use native.Mathlib.Nat.{zero-div, div-one, pow-succ', div-div-eq-div-mul, add-mul-div-left, div-add-mod, pow-le-pow-right}
+use native.Mathlib.Nat.{zero-div, div-one, pow-succ', div-div-eq-div-mul, pow-le-pow-right}
 use native.Mathlib.Omega.{arith}
 use lib.Dec.{eqb}
 use lib.ListN.{length, getD, replicate, length-append, length-replicate, List·getD-append}

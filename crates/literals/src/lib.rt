@@ -4,7 +4,7 @@ ghost use mathlib.Core.Bool.{false};
 ghost use Prim.Native.Nat.{_+_, _^_, _≤_};
 ghost use lib.Dec.{eqb};
 ghost use lib.ListN.{length, getD, take};
-ghost use Rattle.literals.specs.Bits.{valueOf, unpack, pad};
+ghost use Rattle.literals.specs.Bits.{valueOf, unpack};
 ghost use Rattle.literals.specs.Results.{LiteralFound, orderOf, comparedOf};
 
 // The longest literal, in bits.

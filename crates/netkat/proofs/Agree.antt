@@ -1,7 +1,7 @@
 -- Desugaring without limit and the check agree: the same refusal at the same place, or a core that is a test exactly where the
 -- written term is one.
 use mathlib.Core.Path.{_≡_, refl}
-use mathlib.Core.Bool.{Bool, _||_}
+use mathlib.Core.Bool.{_||_}
 use mathlib.Core.Option.{Option, none, some}
 use mathlib.Core.List.{List, [], _∷_, _++_}
 use Prim.Native.Nat.{ℕ, _+_, _-_}
@@ -18,7 +18,7 @@ use Rattle.desugar.specs.Rules.{boundVariable, knownRange, rangeRule}
 use Rattle.desugar.proofs.Decides.{Decides, fails, holds, need-decides, range-decides}
 use Rattle.desugar.proofs.EnvLaws.{find-range-map, lookup-alias-map, lookup-variable-map, mapEnv, mapOption}
 use Rattle.desugar.proofs.Sorts.{test-of-join, test-of-negate, test-of-use}
-use Rattle.netkat.proofs.CheckWalk.{checkWalk}
+use Rattle.netkat.specs.CheckWords.{checkWalk}
 
 -- a result with the draws made beside what f sees of it, or one refusal beside itself
 pub data Seen {A B : Type 0} (f : A → B) : Answer (A × Meter) → Answer B → Type 0 where

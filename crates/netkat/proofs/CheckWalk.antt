@@ -1,4 +1,4 @@
--- Check as one walk, which makes no list of points: the children from left to right, then the node's own rules.
+-- Check as one walk follows the points in walking order: it gives what Check gives.
 use mathlib.Core.Path.{_≡_, refl, sym, ap, _∙_}
 use mathlib.Core.Bool.{Bool, true, false, _&&_, _||_}
 use mathlib.Core.Option.{Option, none, some, Option·getD}
@@ -7,41 +7,12 @@ use Prim.Native.Nat.{ℕ, _+_}
 use lib.Dec.{eqb}
 use Rattle.expr.specs.Answers.{Answer, andThen, mapAnswer, need, ok, refuse}
 use Rattle.expr.specs.Operations.{isTestUse}
-use Rattle.expr.specs.Terms.{Binary, Expr, IfThenElse, Let, LetBitRange, Plain, Ranged, TestNegation, Unary, Use, Var, Where, atomKind, op2Kind, records, testKind}
-use Rattle.desugar.specs.Bindings.{Env, findRange, lookupAlias, lookupVariable, range, variable}
+use Rattle.expr.specs.Terms.{Binary, Expr, IfThenElse, Let, LetBitRange, Plain, Ranged, TestNegation, Unary, Use, Var, Where, records}
+use Rattle.desugar.specs.Bindings.{findRange, lookupAlias, lookupVariable, range, variable}
 use Rattle.desugar.specs.Rules.{boundVariable, knownRange, rangeRule}
 use Rattle.netkat.specs.Check.{check, firstFailure, ruleAt, sorts, testRange, testSort}
+use Rattle.netkat.specs.CheckWords.{checkWalk}
 use Rattle.netkat.specs.Points.{Point, Scope, point, walk}
-
--- under which variables around are tests: the first rule that fails, or whether the term is a test
-abbrev pub checkWalk : Env Bool → Expr → ℕ → Answer Bool
-checkWalk env (Plain a) at = ok (testKind (atomKind a))
-checkWalk env (Unary o e) at = andThen (checkWalk env e (at + 1)) λ _. ok false
-checkWalk env (Binary o a b) at =
-    andThen (checkWalk env a (at + 1)) λ s.
-    andThen (checkWalk env b (at + 1 + records a)) λ t.
-    ok (testKind (op2Kind o) && (s && t))
-checkWalk env (TestNegation e) at =
-    andThen (checkWalk env e (at + 1)) λ s.
-    andThen (need s 22 at) λ _.
-    ok true
-checkWalk env (IfThenElse c t e) at =
-    andThen (checkWalk env c (at + 1)) λ s.
-    andThen (checkWalk env t (at + 1 + records c)) λ s₁.
-    andThen (checkWalk env e (at + 1 + records c + records t)) λ s₂.
-    andThen (need s 23 at) λ _.
-    ok (s₁ && s₂)
-checkWalk env (Let x d b) at =
-    andThen (checkWalk env d (at + 1)) λ s.
-    checkWalk (variable x s ∷ env) b (at + 1 + records d)
-checkWalk env (LetBitRange x s e b) at = checkWalk (range x s e ∷ env) b (at + 1)
-checkWalk env (Var x) at = boundVariable (lookupVariable env x) (lookupAlias env x) at
-checkWalk env (Ranged w u) at =
-    andThen (knownRange (findRange env w) at) λ r.
-    andThen (rangeRule w u r at) λ _.
-    ok (isTestUse u || eqb (r .0) (r .1))
-
--- ## It follows the points in walking order
 
 then-assoc : {A B C : Type 0} (x : Answer A) (f : A → Answer B) (g : B → Answer C) → andThen (andThen x f) g ≡ andThen x (λ a. andThen (f a) g)
 then-assoc (ok a) f g = refl

@@ -1,8 +1,8 @@
 -- The numbers of an answer have 32 bits: places, lengths and drawn totals.
 use mathlib.Core.Path.{_≡_, refl, ap, subst}
 use mathlib.Core.Bool.{Bool, true, false, cond, _&&_}
-use mathlib.Core.List.{List, []}
-use Prim.Native.Nat.{ℕ, _+_, _-_, _*_, _^_, _≤_, _<_}
+use mathlib.Core.List.{List, [], _∷_}
+use Prim.Native.Nat.{ℕ, _+_, _*_, _^_, _≤_, _<_}
 use native.Mathlib.Nat.{zero-add}
 use native.Mathlib.Decide.{decLt}
 use native.Mathlib.Omega.{arith}
@@ -14,17 +14,22 @@ use Rattle.expr.specs.Answers.{Answer, ok, refuse, andThen, mapAnswer, need}
 use Rattle.expr.specs.Terms.{Name, Core, Expr, Plain, Unary, Binary, TestNegation, IfThenElse, Let, LetBitRange, Var, Ranged, records, depth, size}
 use Rattle.expr.specs.Form.{maxRecords, maxDepth, decode, encode, encodeCore, Fits, Within}
 use Rattle.expr.specs.Operations.{isTestFragment, fragmentBytes, numFields, fieldsBytes, substitute, raised, intoRoom, substituteBytes}
-use Rattle.expr.proofs.Places.{Placed, placed-within, decode-placed, fields-placed}
+use Rattle.expr.proofs.Places.{Placed, placed-then, placed-need, placed-within, decode-placed, fields-placed}
 use Rattle.expr.proofs.TermForm.{IfOk}
 use Rattle.expr.proofs.FormTheorem.{decode-only}
 use Rattle.expr.proofs.Replacing.{long}
+use Rattle.desugar.specs.Bindings.{Env, findRange, lookupAlias, lookupVariable, range, variable}
+use Rattle.desugar.specs.Rules.{boundVariable, knownRange, rangeRule}
 use Rattle.desugar.specs.Desugar.{desugar, desugarBytes, drawnOf, maxAllowance, workFor}
 use Rattle.desugar.specs.Memory.{Holds, words}
-use Rattle.desugar.specs.Meter.{Meter, drawn, left, spent}
+use Rattle.desugar.specs.Meter.{Meter, drawn, left}
 use Rattle.desugar.proofs.Limit.{Costs, desugar-costs, gives, stops}
 use Rattle.desugar.proofs.RecordBytes.{records-short, core-bytes}
-use Rattle.desugar.proofs.RefusalPlaces.{desugar-placed}
+use Rattle.desugar.proofs.RefusalPlaces.{desugar-placed, range-placed, rule-placed, variable-placed}
 use Rattle.desugar.proofs.Room.{Weighed, weighed, declined, Fits as Large, desugar-fits}
+use Rattle.netkat.specs.Check.{check, checkBytes}
+use Rattle.netkat.specs.CheckWords.{checkWalk}
+use Rattle.netkat.proofs.CheckWalk.{check-is-walk}
 
 -- ## Answers
 
@@ -69,6 +74,39 @@ pub fields-narrow : (bs : List ℕ) → Bytes bs → Narrow Any (fieldsBytes bs)
 fields-narrow bs b =
     narrow-then Within Any (decode bs) _ (narrow-term bs b) (λ e w.
     placed-narrow Any (numFields e 0) (placed-within (0 + records e) (maxRecords + 1) (numFields e 0) (omega (arith, w .count)) (fields-placed e 0)) (λ _ _. tt))
+
+-- ## Check
+
+check-placed : (n : ℕ) (env : Env Bool) (e : Expr) (at : ℕ) → at + records e ≤ n → Placed n (checkWalk env e at)
+check-placed n env (Plain a) at h = tt
+check-placed n env (Unary o e) at h = placed-then n (checkWalk env e (at + 1)) _ (check-placed n env e (at + 1) (omega arith)) (λ _. tt)
+check-placed n env (Binary o a b) at h =
+    placed-then n (checkWalk env a (at + 1)) _ (check-placed n env a (at + 1) (omega arith)) (λ _.
+    placed-then n (checkWalk env b (at + 1 + records a)) _ (check-placed n env b (at + 1 + records a) (omega arith)) (λ _. tt))
+check-placed n env (TestNegation e) at h =
+    placed-then n (checkWalk env e (at + 1)) _ (check-placed n env e (at + 1) (omega arith)) (λ s.
+    placed-then n (need s 22 at) _ (placed-need n s 22 at (omega arith)) (λ _. tt))
+check-placed n env (IfThenElse c t e) at h =
+    placed-then n (checkWalk env c (at + 1)) _ (check-placed n env c (at + 1) (omega arith)) (λ s.
+    placed-then n (checkWalk env t (at + 1 + records c)) _ (check-placed n env t (at + 1 + records c) (omega arith)) (λ _.
+    placed-then n (checkWalk env e (at + 1 + records c + records t)) _ (check-placed n env e (at + 1 + records c + records t) (omega arith)) (λ _.
+    placed-then n (need s 23 at) _ (placed-need n s 23 at (omega arith)) (λ _. tt))))
+check-placed n env (Let x d b) at h =
+    placed-then n (checkWalk env d (at + 1)) _ (check-placed n env d (at + 1) (omega arith)) (λ s.
+    check-placed n (variable x s ∷ env) b (at + 1 + records d) (omega arith))
+check-placed n env (LetBitRange x s e b) at h = check-placed n (range x s e ∷ env) b (at + 1) (omega arith)
+check-placed n env (Var x) at h =
+    placed-within (at + 1) n (boundVariable (lookupVariable env x) (lookupAlias env x) at) (omega arith) (variable-placed (lookupVariable env x) (lookupAlias env x) at)
+check-placed n env (Ranged w u) at h =
+    placed-then n (knownRange (findRange env w) at) _ (placed-within (at + 1) n (knownRange (findRange env w) at) (omega arith) (range-placed (findRange env w) at)) (λ r.
+    placed-then n (rangeRule w u r at) _ (placed-within (at + 1) n (rangeRule w u r at) (omega arith) (rule-placed w u r at)) (λ _. tt))
+
+pub check-narrow : (bs : List ℕ) → Bytes bs → Narrow Any (checkBytes bs)
+check-narrow bs b =
+    narrow-then Within Any (decode bs) _ (narrow-term bs b) (λ e w.
+    placed-narrow Any (check [] e 0)
+    (subst (Placed (maxRecords + 1)) (check-is-walk [] e 0) (check-placed (maxRecords + 1) [] e 0 (omega (arith, w .count))))
+    (λ _ _. tt))
 
 -- ## Substitute
 

@@ -1,5 +1,9 @@
 -- Laws of the definitions and the theorems of demand 3.
 pub mod CheckWalk
+pub mod CheckLeaves
+pub mod CheckLaws
+pub mod CheckSteps
+pub mod CheckDispatch
 pub mod Agree
 pub mod Inside
 pub mod Rules

@@ -1,9 +1,9 @@
 -- The theorems on the definitions, in the order in which document 01 asks for them. A reviewer reads the statements here first; each
 -- proof is a line that cites the laws beside this file and in the crates below.
-use mathlib.Core.Path.{_≡_, refl, sym, ap, subst, _∙_}
+use mathlib.Core.Path.{_≡_, refl, subst}
 use mathlib.Core.Logic.{_↔_}
-use mathlib.Core.Bool.{Bool, true, false}
-use mathlib.Core.List.{List, [], _∷_, _++_, map, List·Memᴰ}
+use mathlib.Core.Bool.{Bool, false}
+use mathlib.Core.List.{List, [], _++_, map, List·Memᴰ}
 use Prim.Native.Nat.{ℕ, _+_, _-_, _≤_, _<_}
 use native.Mathlib.Nat.{zero-add}
 use lib.ListN.{length, getD}

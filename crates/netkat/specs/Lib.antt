@@ -1,4 +1,5 @@
 -- The check, and desugaring and meaning at a point. Read in this order.
 pub mod Points
 pub mod Check
+pub mod CheckWords
 pub mod Entry

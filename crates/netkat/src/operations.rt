@@ -1,16 +1,29 @@
-// Test fragment, Field count, Substitute and Desugar, as the solver's Rust process calls them.
+// Check, Desugar, Substitute, Test fragment and Field count, as the solver's Rust process calls them.
 ghost use mathlib.Core.Path.{_≡_};
 ghost use lib.ListN.{length};
 ghost use Rattle.literals.specs.Bits.{bit};
 ghost use Rattle.expr.specs.Answers.{mapAnswer};
 ghost use Rattle.expr.specs.Operations.{fragmentBytes, fieldsBytes, substituteBytes};
 ghost use Rattle.desugar.specs.Desugar.{desugarBytes};
+ghost use Rattle.netkat.specs.Check.{checkBytes};
 ghost use Rattle.netkat.specs.Entry.{hosted, Hosts};
 use crate::Answer;
+use crate::check::Checked;
 use desugar::bytes::Desugared;
 use expr::operations::FieldCount;
 use expr::operations::Fragment;
 use expr::replace::Substituted;
+
+// Form and the rules 11 to 23: the first value is 1 if the term is a test, and else 0.
+#[no_mangle]
+pub extern "C" fn netkat_check(term: &[u8]) -> Answer
+    ensures { λ r. ⌜ r ≡ hosted (mapAnswer (λ b. (bit b, 0)) (checkBytes (now (term .entry)))) ⌝ }
+{
+    match crate::check::check(term) {
+        Checked::Refused(number, at) => crate::answers::refused(number, at),
+        Checked::Test(yes) => crate::answers::judged(yes),
+    }
+}
 
 // Whether a term is in the test fragment: the first value is 1 if it is, and else 0.
 #[no_mangle]

@@ -1,14 +1,10 @@
-// Runs the cases of the file `cases` through form, is_test_fragment, num_fields, substitute and desugar, and compares each answer in full:
-// number, place, values, every byte of the answer buffer. Prints the index of each case that differs, then how many agree and how many
-// there are. tools/cases.py makes the file and says what a case is.
+// Runs the cases of the file `cases` through the exported functions, and compares each answer in full: number, place, values, every byte of
+// the answer buffer. Prints the index of each case that differs, then how many agree and how many there are. tools/cases.py makes the file
+// and says what a case is.
 ghost use Prim.Native.Nat.{_+_, _≤_, _<_};
 ghost use lib.ListN.{length};
-use desugar::bytes::Desugared;
-use expr::form::Formed;
-use expr::operations::FieldCount;
-use expr::operations::Fragment;
-use expr::replace::Substituted;
 use libc::STDOUT_FILENO;
+use netkat::Answer;
 
 // The longest answer buffer of a case, and what each of its bytes is before a call.
 const ROOM: usize = 8192;
@@ -43,14 +39,6 @@ struct Tally {
     cases: u64,
 }
 
-// An answer or what is expected of one: a success with its value and 0, of a desugaring the core's length and the drawn total; or a
-// refusal's number and place.
-struct Outcome {
-    ok: bool,
-    first: u64,
-    second: u64,
-}
-
 fn number(a: u8, b: u8, c: u8, d: u8) -> u32 {
     a as u32 + 256 * (b as u32 + 256 * (c as u32 + 256 * (d as u32)))
 }
@@ -83,56 +71,47 @@ fn head(bytes: &[u8], at: usize) -> Case
     }
 }
 
-fn success(value: u64) -> Outcome {
-    Outcome {
-        ok: true,
-        first: value,
+// What a case expects: a success with its values, or a refusal's number and place.
+fn expected(case: Case) -> Answer {
+    if case.ok {
+        return Answer {
+            number: 0,
+            place: 0,
+            first: case.first,
+            second: case.second,
+        };
+    }
+    Answer {
+        number: case.first,
+        place: case.second,
+        first: 0,
         second: 0,
     }
 }
 
-fn refusal(number: u8, place: usize) -> Outcome {
-    Outcome {
-        ok: false,
-        first: number as u64,
-        second: place as u64,
+fn agree(want: Answer, got: Answer) -> bool {
+    want.number == got.number
+        && want.place == got.place
+        && want.first == got.first
+        && want.second == got.second
+}
+
+// No call answers this: a case that cannot be run differs.
+fn none() -> Answer {
+    Answer {
+        number: 0,
+        place: 1,
+        first: 0,
+        second: 0,
     }
 }
 
-fn formed(term: &[u8]) -> Outcome {
-    match expr::form::form(term) {
-        Formed::Good(_) => success(0),
-        Formed::Refused(number, place) => refusal(number, place),
-    }
-}
-
-fn fragment(term: &[u8]) -> Outcome {
-    match expr::operations::is_test_fragment(term) {
-        Fragment::Is(yes) => success(yes as u64),
-        Fragment::Refused(number, place) => refusal(number, place),
-    }
-}
-
-fn fields(term: &[u8]) -> Outcome {
-    match expr::operations::num_fields(term) {
-        FieldCount::Count(n) => success(n as u64),
-        FieldCount::Refused(number, place) => refusal(number, place),
-    }
-}
-
-fn agree(want: Outcome, got: Outcome) -> bool {
-    want.ok == got.ok && want.first == got.first && want.second == got.second
-}
-
-// A Substitute with a buffer of `room` bytes. A case with more room than there is differs, for no refusal has the number 0.
-fn substituted(term: &[u8], name: u16, replacement: &[u8], out: &mut [u8], room: usize) -> Outcome {
+// A Substitute with a buffer of `room` bytes.
+fn substituted(term: &[u8], name: u16, replacement: &[u8], out: &mut [u8], room: usize) -> Answer {
     if out.len() < room {
-        return refusal(0, 0);
+        return none();
     }
-    match expr::replace::substitute(term, name, replacement, &mut out[0..room]) {
-        Substituted::Length(n) => success(n as u64),
-        Substituted::Refused(number, place) => refusal(number, place),
-    }
+    netkat::operations::netkat_substitute(term, name, replacement, &mut out[0..room])
 }
 
 // Whether the bytes are the result, and marks behind it.
@@ -149,13 +128,13 @@ fn holds(out: &[u8], result: &[u8]) -> bool {
 }
 
 // Whether a Substitute agrees: its answer, and every byte of a buffer that was marked before.
-fn replaced(case: Case, want: Outcome, term: &[u8], replacement: &[u8], result: &[u8]) -> bool {
+fn replaced(case: Case, term: &[u8], replacement: &[u8], result: &[u8]) -> bool {
     let mut out = [MARK; 8192];
     let got = substituted(term, case.name, replacement, &mut out, case.room as usize);
-    agree(want, got) && holds(&out, result)
+    agree(expected(case), got) && holds(&out, result)
 }
 
-// A desugaring with `size` numbers of work memory and a buffer of `room` bytes. A case with more of either than there is differs.
+// A desugaring with `size` numbers of work memory and a buffer of `room` bytes.
 fn desugared(
     term: &[u8],
     allowance: u32,
@@ -163,37 +142,24 @@ fn desugared(
     size: usize,
     out: &mut [u8],
     room: usize,
-) -> Outcome {
+) -> Answer {
     if work.len() < size {
-        return refusal(0, 0);
+        return none();
     }
     if out.len() < room {
-        return refusal(0, 0);
+        return none();
     }
-    match desugar::bytes::desugar(term, allowance, &mut work[0..size], &mut out[0..room]) {
-        Desugared::Done(n, drawn) => Outcome {
-            ok: true,
-            first: n as u64,
-            second: drawn as u64,
-        },
-        Desugared::Refused(number, place) => refusal(number, place),
-    }
+    netkat::operations::netkat_desugar(term, allowance, &mut work[0..size], &mut out[0..room])
 }
 
 // The same, with the work memory of the largest case.
-fn desugared_anew(
-    term: &[u8],
-    allowance: u32,
-    size: usize,
-    out: &mut [u8],
-    room: usize,
-) -> Outcome {
+fn desugared_anew(term: &[u8], allowance: u32, size: usize, out: &mut [u8], room: usize) -> Answer {
     let mut work = [USED; 900000];
     desugared(term, allowance, &mut work, size, out, room)
 }
 
 // Whether a desugaring agrees: its answer, and every byte of a buffer that was marked before.
-fn cored(case: Case, want: Outcome, term: &[u8], result: &[u8]) -> bool {
+fn cored(case: Case, term: &[u8], result: &[u8]) -> bool {
     let mut out = [MARK; 8192];
     let got = desugared_anew(
         term,
@@ -202,33 +168,50 @@ fn cored(case: Case, want: Outcome, term: &[u8], result: &[u8]) -> bool {
         &mut out,
         case.room as usize,
     );
-    agree(want, got) && holds(&out, result)
+    agree(expected(case), got) && holds(&out, result)
+}
+
+// A Subrange of the four numbers that stand for a term.
+fn subrange(term: &[u8]) -> Answer {
+    if term.len() < 16 {
+        return none();
+    }
+    netkat::netkat_compute_subrange(
+        field(term, 0),
+        field(term, 4),
+        field(term, 8),
+        field(term, 12),
+    )
 }
 
 // Whether a case agrees with what the functions answer.
 fn agrees(case: Case, term: &[u8], replacement: &[u8], result: &[u8]) -> bool {
-    let want = Outcome {
-        ok: case.ok,
-        first: case.first as u64,
-        second: case.second as u64,
-    };
     let operation = case.operation;
     match operation {
-        1 => agree(want, formed(term)),
-        2 => agree(want, fragment(term)),
-        3 => agree(want, fields(term)),
-        4 => replaced(case, want, term, replacement, result),
-        5 => cored(case, want, term, result),
+        1 => agree(expected(case), netkat::operations::netkat_check(term)),
+        2 => agree(
+            expected(case),
+            netkat::operations::netkat_is_test_fragment(term),
+        ),
+        3 => agree(expected(case), netkat::operations::netkat_num_fields(term)),
+        4 => replaced(case, term, replacement, result),
+        5 => cored(case, term, result),
+        6 => agree(expected(case), subrange(term)),
+        _ => false,
+    }
+}
+
+// Whether an operation writes an answer.
+fn writes(operation: u8) -> bool {
+    match operation {
+        4..=5 => true,
         _ => false,
     }
 }
 
 // How many bytes a successful Substitute or desugaring writes, and of any other case none.
 fn written(case: Case) -> usize {
-    if case.operation < 4 {
-        return 0;
-    }
-    if case.ok {
+    if writes(case.operation) && case.ok {
         return case.first as usize;
     }
     0

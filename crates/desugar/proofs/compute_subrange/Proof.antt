@@ -3,7 +3,7 @@ use mathlib.Core.Path.{_≡_}
 use Prim.Native.Nat.{ℕ, _+_, _^_, _≤_, _<_}
 use borrow.Author.Needs.{needs}
 use borrow.Author.Tests.{lt-ltb, le-ltb, le-leb, lt-leb}
-use Rattle.expr.specs.Answers.{Answer, ok, refuse}
+use Rattle.expr.specs.Answers.{ok, refuse}
 use Rattle.desugar.specs.Bindings.{computeSubrange}
 use Rattle.desugar.proofs.compute_subrange.Statement.{statement}
 use Rattle.desugar.proofs.compute_subrange.Tie as tie

@@ -1,7 +1,6 @@
 // What is written for one record of a core, and the modes of its operands: 0 negate, 1 keep, 2 desugar again, 3 skip.
 ghost use mathlib.Core.Path.{_≡_};
 ghost use Prim.Native.Nat.{_+_, _-_, _≤_, _<_};
-ghost use mathlib.Core.List.{[], _∷_};
 ghost use lib.ListN.{length, getD, set};
 ghost use lib.Seq.{sets};
 ghost use Rattle.desugar.specs.NegationRun.{TwoNotes, dropAt, countOf, newKind, newValue, ownWords, leftCode, rightCode};

@@ -1,6 +1,5 @@
 -- `literals::bit_at` meets its contract: bit i of bytes is bit i % 8 of byte i / 8.
 use mathlib.Core.Path.{sym, _∙_, ap}
-use mathlib.Core.Bool.{false}
 use Prim.Native.Nat.{_/_, _%_, _^_}
 use native.Mathlib.Nat.{zero-div}
 use borrow.Author.Needs.{needs}

@@ -1,5 +1,4 @@
 -- `bytes::desugar` meets its contract.
-use native.Mathlib.Omega.{arith}
 use borrow.Author.Needs.{needs}
 use Rattle.expr.proofs.SubstituteSteps.{form-decodes, form-refuses}
 use Rattle.desugar.proofs.BytesSteps.{none-allowed, too-much, no-memory, not-formed, allowed}

@@ -8,81 +8,63 @@ use Rattle.desugar.specs.WalkWords.{whereOf, useOf}
 use Rattle.desugar.specs.RangedWords.{recordWith}
 use Rattle.desugar.proofs.RangedCores.{use-kept}
 use Rattle.desugar.proofs.RuleLaws.{range-kept}
-use Rattle.desugar.proofs.LeafSteps.{use-refused, use-drawn, too-large, came-stored, same-came}
+use Rattle.desugar.proofs.LeafSteps.{fields-drawn, too-large, came-stored, same-came}
 use Rattle.desugar.proofs.ranged.use_core.Statement.{statement}
 use Rattle.desugar.proofs.ranged.use_core.Tie as tie
 
-range-rule-requires : tie.Need-range-rule-requires
-range-rule-requires c κs = search needs
-
-returns : tie.Need-returns
-returns c =
-    let a = c .before .before .before .before .before .args in
-    let h = recordWith (a .a .now) (a .b .now) (a .head) in
-    use-refused (whereOf h) (useOf h) (a .start) (a .end) (c .before .range-rule .result) (a .place) (left (a .allowance)) (c .before .range-rule .ensures (a .place)) (c .if1 .taken)
-
 sub-wide : tie.Need-sub-wide
-sub-wide c =
-    let a = c .before .before .before .before .before .args in
+sub-wide c = let a = c .before .before .before .args in
     let h = recordWith (a .a .now) (a .b .now) (a .head) in
-    range-kept (whereOf h) (useOf h) (a .start) (a .end) (c .before .range-rule .result) (c .if1 .left) (c .before .range-rule .ensures 0) .0
+    range-kept (whereOf h) (useOf h) (a .start) (a .end) (c .before .before .before .pre .0 .rule) .0
 
 wide-requires : tie.Need-wide-requires
 wide-requires c κs = search needs
 
 use-size-requires : tie.Need-use-size-requires
-use-size-requires c κs =
-    let a = c .before .before .before .before .before .before .args in
-    use-kept (a .a .now) (a .b .now) (a .head) (a .start) (a .end) (c .wide .result) (c .before .before .range-rule .result) (c .before .before .before .before .before .before .pre .0) (c .before .if1 .left) (c .before .before .range-rule .ensures 0) (c .wide .ensures) (omega arith)
+use-size-requires c κs = let a = c .before .before .before .before .args in
+    use-kept (a .a .now) (a .b .now) (a .head) (a .start) (a .end) (c .wide .result) (c .before .before .before .before .pre .0) (c .wide .ensures) (omega arith)
 
-returns-2 : tie.Need-returns-2
-returns-2 c =
-    let a = c .before .before .before .before .before .before .before .before .args in
+returns : tie.Need-returns
+returns c = let a = c .before .before .before .before .before .before .args in
     let h = recordWith (a .a .now) (a .b .now) (a .head) in
-    let n = c .before .before .wide .result in
-    use-drawn (whereOf h) (useOf h) (a .start) (a .end) (c .before .before .before .before .range-rule .result) (a .place) (left (a .allowance)) (c .before .before .before .before .range-rule .ensures (a .place)) n (c .before .before .wide .ensures) (c .before .before .before .if1 .left)
-    ∙ too-large (useCore (useOf h) (a .start) n) (a .place) (a .allowance) (omega (arith, c .before .use-size .ensures (a .start), c .if2 .taken))
+    fields-drawn (useOf h) (a .start) (a .end) (c .before .before .wide .result) (a .place) (left (a .allowance)) (c .before .before .wide .ensures)
+    ∙ too-large (useCore (useOf h) (a .start) (c .before .before .wide .result)) (a .place) (a .allowance) (omega (arith, c .before .use-size .ensures (a .start), c .if1 .taken))
 
 write-use-requires : tie.Need-write-use-requires
-write-use-requires c κs =
-    let a = c .before .before .before .before .before .before .before .before .before .args in
+write-use-requires c κs = let a = c .before .before .before .before .before .before .before .args in
     let h = recordWith (a .a .now) (a .b .now) (a .head) in
-    let order = range-kept (whereOf h) (useOf h) (a .start) (a .end) (c .before .before .before .before .before .range-rule .result) (c .before .before .before .before .if1 .left) (c .before .before .before .before .before .range-rule .ensures 0) .0 in (
-      use-kept (a .a .now) (a .b .now) (a .head) (a .start) (a .end) (c .before .before .before .wide .result) (c .before .before .before .before .before .range-rule .result) (c .before .before .before .before .before .before .before .before .before .pre .0) (c .before .before .before .before .if1 .left) (c .before .before .before .before .before .range-rule .ensures 0) (c .before .before .before .wide .ensures) (omega arith),
-      record { room = omega (arith, c .before .before .use-size .ensures (a .start), c .before .if2 .left, c .before .before .before .before .before .before .before .before .before .pre .1 .room); fields = omega (arith, c .before .before .before .wide .ensures, order) },
+    let order = range-kept (whereOf h) (useOf h) (a .start) (a .end) (c .before .before .before .before .before .before .before .pre .0 .rule) .0 in (
+      use-kept (a .a .now) (a .b .now) (a .head) (a .start) (a .end) (c .before .before .before .wide .result) (c .before .before .before .before .before .before .before .pre .0) (c .before .before .before .wide .ensures) (omega arith),
+      record { room = omega (arith, c .before .before .use-size .ensures (a .start), c .before .if1 .left, c .before .before .before .before .before .before .before .pre .1 .room); fields = omega (arith, c .before .before .before .wide .ensures, order) },
     )
 
-add-t20 : tie.Need-add-t20
-add-t20 c = search needs
+add-t19 : tie.Need-add-t19
+add-t19 c = search needs
 
-sub-t21 : tie.Need-sub-t21
-sub-t21 c = search needs
+sub-t20 : tie.Need-sub-t20
+sub-t20 c = search needs
 
 same-length : tie.Need-same-length
 same-length c = search needs
 
-returns-3 : tie.Need-returns-3
-returns-3 c =
-    let a = c .before .before .before .before .before .before .before .before .before .before .before .before .args in
+returns-2 : tie.Need-returns-2
+returns-2 c = let a = c .before .before .before .before .before .before .before .before .before .before .args in
     let h = recordWith (a .a .now) (a .b .now) (a .head) in
-    let n = c .before .before .before .before .before .before .wide .result in
     same-came
-    (use-drawn (whereOf h) (useOf h) (a .start) (a .end) (c .before .before .before .before .before .before .before .before .range-rule .result) (a .place) (left (a .allowance)) (c .before .before .before .before .before .before .before .before .range-rule .ensures (a .place)) n (c .before .before .before .before .before .before .wide .ensures) (c .before .before .before .before .before .before .before .if1 .left))
-    (came-stored (useCore (useOf h) (a .start) n) (a .place) (a .allowance) (c .before .before .before .before .before .use-size .result) (c .before .before .before .before .before .use-size .ensures (a .start)) (c .before .before .before .before .if2 .left)
-    (a .head .size) _ (a .top) (a .work .now) _ (c .before .before .before .before .before .before .before .before .before .before .before .before .pre .1 .room) (c .before .before .write-use .ensures))
+    (fields-drawn (useOf h) (a .start) (a .end) (c .before .before .before .before .before .before .wide .result) (a .place) (left (a .allowance)) (c .before .before .before .before .before .before .wide .ensures))
+    (came-stored (useCore (useOf h) (a .start) (c .before .before .before .before .before .before .wide .result)) (a .place) (a .allowance) (c .before .before .before .before .before .use-size .result) (c .before .before .before .before .before .use-size .ensures (a .start)) (c .before .before .before .before .if1 .left)
+    (a .head .size) _ (a .top) (a .work .now) _ (c .before .before .before .before .before .before .before .before .before .before .pre .1 .room) (c .before .before .write-use .ensures))
 
 pub use-core-spec : {M : Type 1} → statement M
 use-core-spec =
     tie.close
     (tie.spec
-    range-rule-requires
-    returns
     sub-wide
     wide-requires
     use-size-requires
-    returns-2
+    returns
     write-use-requires
-    add-t20
-    sub-t21
+    add-t19
+    sub-t20
     same-length
-    returns-3)
+    returns-2)

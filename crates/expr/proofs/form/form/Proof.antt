@@ -1,5 +1,4 @@
 -- `form::form` meets its contract.
-use native.Mathlib.Omega.{arith}
 use borrow.Author.Needs.{needs}
 use Rattle.expr.proofs.FormSteps.{form-refused, form-left-over, form-good}
 use Rattle.expr.proofs.form.form.Statement.{statement}

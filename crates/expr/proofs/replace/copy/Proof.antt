@@ -1,13 +1,11 @@
 -- `replace::copy` meets its contract.
-use mathlib.Core.Path.{_≡_, refl, sym, ap, _∙_}
-use mathlib.Core.Bool.{true}
-use Prim.Native.Nat.{ℕ, suc, _+_, _-_, _≤_, _<_}
+use mathlib.Core.Path.{_≡_, refl, ap, _∙_}
+use Prim.Native.Nat.{_+_, _-_, _≤_}
 use native.Mathlib.Numerals.{add-one}
 use native.Mathlib.Omega.{arith}
 use borrow.Author.Tests.{not-true, not-false}
 use lib.ListN.{length, length-set}
 use lib.Seq.{paste, paste-zero, paste-suc}
-use Rattle.expr.specs.Replaced.{pasted}
 use Rattle.expr.proofs.Copied.{pasted-is}
 use Rattle.expr.proofs.replace.copy.Statement.{statement}
 use Rattle.expr.proofs.replace.copy.Tie as tie

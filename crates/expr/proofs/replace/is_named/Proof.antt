@@ -1,5 +1,4 @@
 -- `replace::is_named` meets its contract.
-use mathlib.Core.Path.{refl}
 use borrow.Author.Tests.{eq-eqb, ne-eqb}
 use Rattle.expr.proofs.replace.is_named.Statement.{statement}
 use Rattle.expr.proofs.replace.is_named.Tie as tie

@@ -1,0 +1,120 @@
+-- The walk of src/check.rt over one term: its record says what it is, and what is told of its children is told of the term.
+use mathlib.Core.Path.{_≡_, sym, ap, subst, _∙_}
+use mathlib.Core.Bool.{Bool}
+use mathlib.Core.List.{List, [], _∷_, append-nil}
+use Prim.Native.Nat.{ℕ, _+_, _-_, _≤_}
+use native.Mathlib.Omega.{arith}
+use lib.ListN.{length}
+use Rattle.expr.specs.Answers.{Answer, andThen, ok}
+use Rattle.expr.specs.Form.{Node, node0, node1, node2, node3, nodeOf, decode, encode, maxDepth}
+use Rattle.expr.specs.Replaced.{encodeAll}
+use Rattle.expr.specs.Results.{recordOf, arityOf}
+use Rattle.expr.specs.Terms.{Expr, records, size}
+use Rattle.expr.specs.declared.records.Head.{Head}
+use Rattle.expr.proofs.FormTheorem.{decode-only}
+use Rattle.expr.proofs.HeadOf.{Headed}
+use Rattle.expr.proofs.Slices.{Sliced, bytes-each}
+use Rattle.desugar.specs.Bindings.{Env}
+use Rattle.desugar.specs.BindingWords.{Bound}
+use Rattle.desugar.proofs.Regions.{kept-all}
+use Rattle.desugar.proofs.Dispatch.{alone, kind-low, levels-left, one-kid, two-kids, three-kids}
+use Rattle.netkat.specs.Check.{check, checkBytes}
+use Rattle.netkat.specs.CheckWords.{checkWalk, flags, Frames, CheckReady, CheckOne, CheckTwo, CheckThree, SortReady, CheckedAs}
+use Rattle.netkat.specs.declared.check.Walked.{Walked}
+use Rattle.netkat.proofs.CheckWalk.{check-is-walk}
+use Rattle.netkat.proofs.CheckLaws.{frames-moved}
+
+-- ## A term whose record was read
+
+module _ {s xs : List ℕ} {levels last top : ℕ} (place : ℕ) (q : CheckReady s levels place last top xs) {h : Head} (k : Headed s (q .term) (q .text .more) h) where
+  abbrev node : Node
+  node = nodeOf (recordOf s h)
+
+  abbrev e : Expr
+  e = q .term
+
+  pub some-left : 1 ≤ levels
+  some-left = levels-left e (q .text) k
+
+  kids-frames : Frames xs last top (levels - 1 + 1) (q .env)
+  kids-frames = frames-moved (q .frames) (kept-all last xs) (omega arith) (q .frames .below) (omega (arith, some-left))
+
+  abbrev Told : List ℕ → Walked → Expr → ℕ → ℕ → Type 0
+  Told ys r e used next = CheckedAs (checkWalk (q .env) e place) used next top xs ys r
+
+  abbrev Term : List ℕ → Walked → Type 0
+  Term ys r = Told ys r e (length (encode e)) (place + records e)
+
+  pub one-asked : {f : Expr → Expr} → node ≡ node1 f → CheckOne s (h .size) (levels - 1) place last top xs
+  one-asked n =
+      one-kid e (q .text) k (λ _ _ _. CheckOne s (h .size) (levels - 1) place last top xs) n
+      (λ b t. record { first = b; env = q .env; text = t; frames = kids-frames })
+
+  pub two-asked : {f : Expr → Expr → Expr} → node ≡ node2 f → CheckTwo s (h .size) (levels - 1) place last top xs
+  two-asked n =
+      two-kids e (q .text) k (λ _ _ _. CheckTwo s (h .size) (levels - 1) place last top xs) n
+      (λ b c t. record { first = b; second = c; env = q .env; text = t; frames = kids-frames })
+
+  pub three-asked : {f : Expr → Expr → Expr → Expr} → node ≡ node3 f → CheckThree s (h .size) (levels - 1) place last top xs
+  three-asked n =
+      three-kids e (q .text) k (λ _ _ _. CheckThree s (h .size) (levels - 1) place last top xs) n
+      (λ b c d t. record { first = b; second = c; third = d; env = q .env; text = t; frames = kids-frames })
+
+  pub one-done : {f : Expr → Expr} (ys : List ℕ) (r : Walked) → node ≡ node1 f
+      → ((p : CheckOne s (h .size) (levels - 1) place last top xs)
+      → CheckedAs (checkWalk (p .env) (f (p .first)) place) (h .size + length (encode (p .first))) (place + 1 + records (p .first)) top xs ys r)
+      → Term ys r
+  one-done ys r n v = one-kid e (q .text) k (Told ys r) n (λ b t. v (record { first = b; env = q .env; text = t; frames = kids-frames }))
+
+  pub two-done : {f : Expr → Expr → Expr} (ys : List ℕ) (r : Walked) → node ≡ node2 f
+      → ((p : CheckTwo s (h .size) (levels - 1) place last top xs)
+      → CheckedAs (checkWalk (p .env) (f (p .first) (p .second)) place) (h .size + length (encodeAll (p .first ∷ p .second ∷ [])))
+      (place + 1 + records (p .first) + records (p .second)) top xs ys r)
+      → Term ys r
+  two-done ys r n v =
+      two-kids e (q .text) k (Told ys r) n (λ b c t. v (record { first = b; second = c; env = q .env; text = t; frames = kids-frames }))
+
+  pub three-done : {f : Expr → Expr → Expr → Expr} (ys : List ℕ) (r : Walked) → node ≡ node3 f
+      → ((p : CheckThree s (h .size) (levels - 1) place last top xs)
+      → CheckedAs (checkWalk (p .env) (f (p .first) (p .second) (p .third)) place) (h .size + length (encodeAll (p .first ∷ p .second ∷ p .third ∷ [])))
+      (place + 1 + records (p .first) + records (p .second) + records (p .third)) top xs ys r)
+      → Term ys r
+  three-done ys r n v =
+      three-kids e (q .text) k (Told ys r) n
+      (λ b c d t. v (record { first = b; second = c; third = d; env = q .env; text = t; frames = kids-frames }))
+
+  -- a record without children
+  pub leaf-ready : SortReady s h last xs
+  leaf-ready = record { inside = k .found; kind = kind-low e (q .text) k; env = q .env; bound = q .frames .bound }
+
+  pub leaf-done : (r : Walked) → 0 ≡ arityOf (h .kind) → (answer : Answer Bool)
+      → ((e : Expr) (env : Env Bool) → node ≡ node0 e → Bound xs last (flags env) → answer ≡ checkWalk env e place)
+      → ((x : Answer Bool) (top : ℕ) (xs : List ℕ) → answer ≡ x → CheckedAs x (h .size) (place + 1) top xs xs r)
+      → Term xs r
+  leaf-done r none answer v told =
+      let f = alone e (q .text) k none in
+      subst (λ u. Told xs r e u (place + records e)) (f .1)
+      (subst (λ (n : ℕ). Told xs r e (h .size) n) (ap (λ (n : ℕ). place + n) (f .2)) (told (checkWalk (q .env) e place) top xs (v e (q .env) (f .0) (q .frames .bound))))
+
+-- ## A whole term
+
+module _ (s : List ℕ) (e : Expr) (h : decode s ≡ ok e) where
+  abbrev pub whole-ready : {xs : List ℕ} {last : ℕ} → Sliced s → last ≡ 0 → length xs ≡ 2048 → CheckReady s maxDepth 0 last 0 xs
+  whole-ready b none long =
+      let d = decode-only s e (bytes-each s b) h in
+      record {
+        term = e;
+        env = [];
+        text =
+            record {
+              more = [];
+              bytes = d .1 ∙ sym (append-nil (encode e));
+              fits = d .0 .fits;
+              deep = d .0 .deep;
+              low = omega (arith, d .0 .count);
+            };
+        frames = record { bound = none; below = omega (arith, none); room = omega (arith, long); small = omega arith };
+      }
+
+  pub whole-is : checkWalk [] e 0 ≡ checkBytes s
+  whole-is = check-is-walk [] e 0 ∙ sym (ap (λ (x : Answer Expr). andThen x (λ e. check [] e 0)) h)
