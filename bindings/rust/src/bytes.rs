@@ -1,0 +1,56 @@
+//! The operations on terms that are bytes already.
+//!
+//! Each answers as the function of the same name in `include/netkat.h`; buffers and work memory are allocated here.
+//!
+//! ```
+//! use netkat::bytes;
+//!
+//! let test = [0x49, 0x18, 2, 0, 0, 0, 2, 1]; // x[0..2] == 1/2
+//! assert_eq!(bytes::check(&test), Ok(true));
+//! assert_eq!(bytes::desugar(&test).unwrap(), [1, 8, 0x21, 6, 1, 5, 6, 1, 0, 0, 0]);
+//! assert_eq!(bytes::check(&[1, 20]).unwrap_err().number, 12);
+//! ```
+
+use crate::{ffi, Desugarer, Refusal};
+
+/// No term of good form is longer: 4,096 records, the longest with a map, a kind, two numbers, a pattern and two literals.
+const MAX_TERM_BYTES: usize = 4_096 * (1 + 1 + 4 + 4 + 1 + 17 + 17);
+
+/// Form, then the rules 11 to 23. True if the term is a test.
+pub fn check(term: &[u8]) -> Result<bool, Refusal> {
+    ffi::check(term).map(|(first, _)| first == 1)
+}
+
+/// The bytes of the term's core, at the greatest allowance. For many terms, or another allowance, see [`Desugarer`].
+pub fn desugar(term: &[u8]) -> Result<Vec<u8>, Refusal> {
+    Desugarer::new().desugar_bytes(term).map(|desugared| desugared.core.to_vec())
+}
+
+/// The bytes of the term with each free occurrence of the variable replaced. A fault of the replacement's form is 31 to 38.
+///
+/// ```
+/// use netkat::bytes;
+///
+/// let star_of_variable_1 = [1, 14, 3, 20, 1, 0];
+/// let dup = [1, 3];
+/// assert_eq!(bytes::substitute(&star_of_variable_1, 1, &dup).unwrap(), [1, 14, 1, 3]);
+/// ```
+pub fn substitute(term: &[u8], name: u16, replacement: &[u8]) -> Result<Vec<u8>, Refusal> {
+    // A variable takes two bytes or more, so this is enough for every occurrence.
+    let occurrences = term.len() / 2;
+    let enough = occurrences.saturating_mul(replacement.len()).saturating_add(term.len());
+    let mut out = vec![0; enough.min(MAX_TERM_BYTES)];
+    let (length, _) = ffi::substitute(term, name, replacement, &mut out)?;
+    out.truncate(length as usize);
+    Ok(out)
+}
+
+/// Form only. True if the term is in the original's test fragment.
+pub fn is_test_fragment(term: &[u8]) -> Result<bool, Refusal> {
+    ffi::is_test_fragment(term).map(|(first, _)| first == 1)
+}
+
+/// One more than the highest field of the term. 25 for field 4,294,967,295.
+pub fn num_fields(term: &[u8]) -> Result<u32, Refusal> {
+    ffi::num_fields(term).map(|(first, _)| first)
+}

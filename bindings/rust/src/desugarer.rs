@@ -1,0 +1,121 @@
+use std::fmt;
+
+use crate::{ffi, Core, Expr, Refusal};
+
+/// The core of a term, at the greatest allowance.
+///
+/// Takes the place of the original's `desugar`. For many terms, or another allowance, see [`Desugarer`].
+///
+/// ```
+/// use netkat::{desugar, Core, Expr};
+///
+/// let policy = Expr::test_negation(Expr::test(0, true));
+/// assert_eq!(desugar(&policy), Ok(Core::Test(0, false)));
+/// ```
+pub fn desugar(term: &Expr) -> Result<Core, Refusal> {
+    Desugarer::new().desugar(term).map(|desugared| desugared.core)
+}
+
+/// Desugars terms one after another in the same memory.
+///
+/// The allowance limits how many core nodes the steps of a desugaring may make, 65,535 if nothing else is said. With it goes the
+/// memory, which is allocated once: 39 bytes for each node of the allowance and 32 KiB, 2.6 MB at the greatest.
+///
+/// ```
+/// use netkat::{Desugarer, Expr};
+///
+/// let mut desugarer = Desugarer::with_allowance(1_000);
+/// let policy = Expr::bit_range_test(0, 2, vec![true, false]);
+///
+/// let desugared = desugarer.desugar(&policy).unwrap();
+/// assert_eq!(desugared.drawn, 3);
+/// assert_eq!(desugared.core.nodes().count(), 3);
+///
+/// // An alias of a billion fields is refused by 24, at once.
+/// let wide = Expr::let_bit_range(1, 0, 1_000_000_000, Expr::var_test(1, vec![true]));
+/// assert_eq!(desugarer.desugar(&wide).unwrap_err().number, 24);
+/// ```
+pub struct Desugarer {
+    allowance: u32,
+    work: Vec<u32>,
+    out: Vec<u8>,
+}
+
+/// A core, and what it took to make it.
+#[derive(Clone, Debug, PartialEq, Eq)]
+pub struct Desugared {
+    /// The core.
+    pub core: Core,
+    /// How many nodes were drawn on the allowance.
+    pub drawn: u32,
+}
+
+/// The bytes of a core, and what it took to make it.
+#[derive(Clone, Copy, Debug, PartialEq, Eq)]
+pub struct DesugaredBytes<'a> {
+    /// The core's bytes, in the memory of the [`Desugarer`].
+    pub core: &'a [u8],
+    /// How many nodes were drawn on the allowance.
+    pub drawn: u32,
+}
+
+impl Desugarer {
+    /// The greatest allowance, which is the default.
+    pub const MAX_ALLOWANCE: u32 = 65_535;
+
+    /// A desugarer with the greatest allowance.
+    pub fn new() -> Self {
+        Self::with_allowance(Self::MAX_ALLOWANCE)
+    }
+
+    /// A desugarer with this allowance. If it is not 1 to 65,535, each call is refused by 9.
+    pub fn with_allowance(allowance: u32) -> Self {
+        let nodes = allowance.min(Self::MAX_ALLOWANCE) as usize;
+        Desugarer {
+            allowance,
+            work: vec![0; 8 * nodes + 8_192],
+            // A core has no more nodes than were drawn. The longest record, a test or an assignment, has 7 bytes.
+            out: vec![0; 7 * nodes],
+        }
+    }
+
+    /// The allowance.
+    pub fn allowance(&self) -> u32 {
+        self.allowance
+    }
+
+    /// The core of a term. Refused by 9, by 5 to 7 if the term is beyond the limits, by a rule (11 to 23), or by 24.
+    pub fn desugar(&mut self, term: &Expr) -> Result<Desugared, Refusal> {
+        let DesugaredBytes { core, drawn } = self.desugar_bytes(&term.to_bytes()?)?;
+        let core = Core::from_bytes(core).expect("the library writes cores of good form");
+        Ok(Desugared { core, drawn })
+    }
+
+    /// The bytes of the core of a term in bytes. Refused by 9, by form (1 to 8), by a rule (11 to 23), or by 24.
+    ///
+    /// ```
+    /// use netkat::Desugarer;
+    ///
+    /// let mut desugarer = Desugarer::new();
+    /// let desugared = desugarer.desugar_bytes(&[0x49, 0x18, 2, 0, 0, 0, 2, 1]).unwrap();
+    /// assert_eq!(desugared.core, [1, 8, 0x21, 6, 1, 5, 6, 1, 0, 0, 0]);
+    /// assert_eq!(desugared.drawn, 3);
+    /// ```
+    pub fn desugar_bytes(&mut self, term: &[u8]) -> Result<DesugaredBytes<'_>, Refusal> {
+        let (length, drawn) = ffi::desugar(term, self.allowance, &mut self.work, &mut self.out)?;
+        Ok(DesugaredBytes { core: &self.out[..length as usize], drawn })
+    }
+}
+
+impl Default for Desugarer {
+    fn default() -> Self {
+        Self::new()
+    }
+}
+
+/// Shows the allowance and not the memory.
+impl fmt::Debug for Desugarer {
+    fn fmt(&self, f: &mut fmt::Formatter<'_>) -> fmt::Result {
+        f.debug_struct("Desugarer").field("allowance", &self.allowance).finish_non_exhaustive()
+    }
+}

@@ -1,0 +1,265 @@
+//! One record of the byte form, without its children: the requirement's "Term bytes".
+
+use crate::Pattern;
+
+/// The kind numbers. 0 to 15 are the core.
+pub(crate) mod kind {
+    pub const ZERO: u8 = 0;
+    pub const ONE: u8 = 1;
+    pub const TOP: u8 = 2;
+    pub const DUP: u8 = 3;
+    pub const END: u8 = 4;
+    pub const ASSIGN: u8 = 5;
+    pub const TEST: u8 = 6;
+    pub const UNION: u8 = 7;
+    pub const INTERSECT: u8 = 8;
+    pub const XOR: u8 = 9;
+    pub const DIFFERENCE: u8 = 10;
+    pub const SEQUENCE: u8 = 11;
+    pub const LTL_UNTIL: u8 = 12;
+    pub const COMPLEMENT: u8 = 13;
+    pub const STAR: u8 = 14;
+    pub const LTL_NEXT: u8 = 15;
+    pub const TEST_NEGATION: u8 = 16;
+    pub const IF_THEN_ELSE: u8 = 17;
+    pub const LET: u8 = 18;
+    pub const LET_BIT_RANGE: u8 = 19;
+    pub const VAR: u8 = 20;
+    pub const VAR_ASSIGN: u8 = 21;
+    pub const VAR_TEST: u8 = 22;
+    pub const BIT_RANGE_ASSIGN: u8 = 23;
+    pub const BIT_RANGE_TEST: u8 = 24;
+    pub const BIT_RANGE_MATCH: u8 = 25;
+    pub const VAR_MATCH: u8 = 26;
+
+    pub const LAST_OF_CORE: u8 = LTL_NEXT;
+    pub const LAST: u8 = VAR_MATCH;
+}
+
+const MAX_LITERAL: usize = 128;
+
+/// The bits of the map byte, in the order of the fields.
+const KIND: u8 = 1 << 0;
+const NAME: u8 = 1 << 1;
+const START: u8 = 1 << 2;
+const END: u8 = 1 << 3;
+const PATTERN: u8 = 1 << 4;
+const NUMBER: u8 = 1 << 5;
+const A: u8 = 1 << 6;
+const B: u8 = 1 << 7;
+
+/// The map bits that records of a kind may have.
+fn map_of_kind(kind: u8) -> u8 {
+    KIND | match kind {
+        kind::ASSIGN | kind::TEST => START | NUMBER,
+        kind::LET | kind::VAR => NAME,
+        kind::LET_BIT_RANGE => NAME | START | END,
+        kind::VAR_ASSIGN | kind::VAR_TEST => NAME | A,
+        kind::BIT_RANGE_ASSIGN | kind::BIT_RANGE_TEST => START | END | A,
+        kind::BIT_RANGE_MATCH => START | END | PATTERN | NUMBER | A | B,
+        kind::VAR_MATCH => NAME | PATTERN | NUMBER | A | B,
+        _ => 0,
+    }
+}
+
+/// Of the map bits NUMBER and B, those that a pattern has.
+fn map_of_pattern(pattern: u8) -> u8 {
+    match pattern {
+        0 => 0,
+        1 => NUMBER,
+        _ => B,
+    }
+}
+
+/// A record's fields; one that is absent in the bytes is zero or empty.
+#[derive(Debug, Default, PartialEq, Eq)]
+pub(crate) struct Record {
+    pub kind: u8,
+    pub name: u16,
+    /// The start of a range, or the field of Assign and Test.
+    pub start: u32,
+    pub end: u32,
+    pub pattern: u8,
+    /// The value of Assign and Test, or a CIDR prefix.
+    pub number: usize,
+    pub a: Vec<bool>,
+    pub b: Vec<bool>,
+}
+
+impl Record {
+    pub fn new(kind: u8) -> Self {
+        Record { kind, ..Record::default() }
+    }
+
+    pub fn with_pattern(self, pattern: &Pattern) -> Self {
+        match pattern.clone() {
+            Pattern::Exact(a) => Record { pattern: 0, a, ..self },
+            Pattern::Cidr { address, prefix_len } => Record { pattern: 1, number: prefix_len, a: address, ..self },
+            Pattern::Wildcard { address, mask } => Record { pattern: 2, a: address, b: mask, ..self },
+            Pattern::IpRange { start, end } => Record { pattern: 3, a: start, b: end, ..self },
+        }
+    }
+
+    /// The pattern of a record that has one.
+    pub fn into_pattern(self) -> Pattern {
+        match self.pattern {
+            0 => Pattern::Exact(self.a),
+            1 => Pattern::Cidr { address: self.a, prefix_len: self.number },
+            2 => Pattern::Wildcard { address: self.a, mask: self.b },
+            _ => Pattern::IpRange { start: self.a, end: self.b },
+        }
+    }
+
+    pub fn children(&self) -> u8 {
+        match self.kind {
+            kind::UNION..=kind::LTL_UNTIL | kind::LET => 2,
+            kind::COMPLEMENT..=kind::TEST_NEGATION | kind::LET_BIT_RANGE => 1,
+            kind::IF_THEN_ELSE => 3,
+            _ => 0,
+        }
+    }
+
+    /// Whether every field is small enough for its place in the bytes.
+    pub fn fits(&self) -> bool {
+        self.number <= usize::from(u8::MAX) && self.a.len() <= MAX_LITERAL && self.b.len() <= MAX_LITERAL
+    }
+
+    /// Appends the bytes of a record that fits.
+    pub fn write(&self, out: &mut Vec<u8>) {
+        let map = self.map();
+        out.push(map);
+        if map & KIND != 0 {
+            out.push(self.kind);
+        }
+        if map & NAME != 0 {
+            out.extend(self.name.to_le_bytes());
+        }
+        if map & START != 0 {
+            out.extend(self.start.to_le_bytes());
+        }
+        if map & END != 0 {
+            out.extend(self.end.to_le_bytes());
+        }
+        if map & PATTERN != 0 {
+            out.push(self.pattern);
+        }
+        if map & NUMBER != 0 {
+            out.push(self.number as u8);
+        }
+        if map & A != 0 {
+            write_literal(&self.a, out);
+        }
+        if map & B != 0 {
+            write_literal(&self.b, out);
+        }
+    }
+
+    /// The map byte: a bit for each field that is not zero or empty.
+    fn map(&self) -> u8 {
+        let bit = |bit, present| if present { bit } else { 0 };
+        bit(KIND, self.kind != 0)
+            | bit(NAME, self.name != 0)
+            | bit(START, self.start != 0)
+            | bit(END, self.end != 0)
+            | bit(PATTERN, self.pattern != 0)
+            | bit(NUMBER, self.number != 0)
+            | bit(A, !self.a.is_empty())
+            | bit(B, !self.b.is_empty())
+    }
+
+    /// Reads one record whose kind is at most `last_kind`. A refusal is its number.
+    pub fn read(bytes: &mut Input, last_kind: u8) -> Result<Self, u32> {
+        let map = bytes.byte()?;
+        let mut record = Record::default();
+        if map & KIND != 0 {
+            record.kind = nonzero(bytes.byte()?)?;
+            if record.kind > last_kind {
+                return Err(2);
+            }
+        }
+        if map & !map_of_kind(record.kind) != 0 {
+            return Err(3);
+        }
+        if map & NAME != 0 {
+            record.name = nonzero(u16::from_le_bytes(bytes.array()?))?;
+        }
+        if map & START != 0 {
+            record.start = nonzero(u32::from_le_bytes(bytes.array()?))?;
+        }
+        if map & END != 0 {
+            record.end = nonzero(u32::from_le_bytes(bytes.array()?))?;
+        }
+        if map & PATTERN != 0 {
+            record.pattern = nonzero(bytes.byte()?)?;
+            if record.pattern > 3 {
+                return Err(5);
+            }
+        }
+        let matches = matches!(record.kind, kind::BIT_RANGE_MATCH | kind::VAR_MATCH);
+        if matches && map & (NUMBER | B) & !map_of_pattern(record.pattern) != 0 {
+            return Err(3);
+        }
+        if map & NUMBER != 0 {
+            record.number = usize::from(nonzero(bytes.byte()?)?);
+            if !matches && record.number > 1 {
+                return Err(5);
+            }
+        }
+        if map & A != 0 {
+            record.a = bytes.literal()?;
+        }
+        if map & B != 0 {
+            record.b = bytes.literal()?;
+        }
+        Ok(record)
+    }
+}
+
+/// The bytes that are not read yet.
+pub(crate) struct Input<'a>(pub &'a [u8]);
+
+impl<'a> Input<'a> {
+    fn take(&mut self, count: usize) -> Result<&'a [u8], u32> {
+        let (front, rest) = self.0.split_at_checked(count).ok_or(1u32)?;
+        self.0 = rest;
+        Ok(front)
+    }
+
+    fn array<const N: usize>(&mut self) -> Result<[u8; N], u32> {
+        let mut array = [0; N];
+        array.copy_from_slice(self.take(N)?);
+        Ok(array)
+    }
+
+    fn byte(&mut self) -> Result<u8, u32> {
+        self.array().map(|[byte]| byte)
+    }
+
+    fn literal(&mut self) -> Result<Vec<bool>, u32> {
+        let length = usize::from(nonzero(self.byte()?)?);
+        if length > MAX_LITERAL {
+            return Err(5);
+        }
+        let packed = self.take(length.div_ceil(8))?;
+        let mut bits: Vec<bool> = packed.iter().flat_map(|byte| (0..8).map(move |i| byte >> i & 1 == 1)).collect();
+        if bits[length..].contains(&true) {
+            return Err(4);
+        }
+        bits.truncate(length);
+        Ok(bits)
+    }
+}
+
+fn nonzero<T: Default + PartialEq>(value: T) -> Result<T, u32> {
+    if value == T::default() {
+        Err(4)
+    } else {
+        Ok(value)
+    }
+}
+
+/// Appends a literal's length byte and its bits.
+fn write_literal(bits: &[bool], out: &mut Vec<u8>) {
+    out.push(bits.len() as u8);
+    out.extend(bits.chunks(8).map(|chunk| chunk.iter().rev().fold(0, |byte, bit| byte << 1 | u8::from(*bit))));
+}

@@ -1,0 +1,239 @@
+use std::error::Error;
+use std::fmt;
+
+/// Why there is no answer: a number of the requirement, and the record that it speaks of.
+///
+/// Numbers are 1 to 28 and 31 to 38. The place is the index of a record in the term, from 0 in written order. It is the same index
+/// as in [`Expr::nodes`](crate::Expr::nodes), so that the part of the policy can be shown:
+///
+/// ```
+/// use netkat::{Expr, RefusalKind};
+///
+/// let policy = Expr::union(Expr::one(), Expr::var(7));
+/// let refusal = policy.check().unwrap_err();
+///
+/// assert_eq!((refusal.number, refusal.place), (12, 2));
+/// assert_eq!(refusal.kind(), RefusalKind::UnboundVariable);
+/// assert_eq!(policy.nodes().nth(refusal.place as usize), Some(&Expr::Var(7)));
+/// assert_eq!(refusal.to_string(), "no let around this use defines the variable (record 2, refusal 12)");
+/// ```
+#[derive(Clone, Copy, Debug, PartialEq, Eq, Hash)]
+pub struct Refusal {
+    /// The number of the rule that is broken.
+    pub number: u32,
+    /// The record's index, from 0 in written order, or 0 for a refusal that speaks of no record.
+    pub place: u32,
+}
+
+/// What a [`Refusal`] is about: one case for each number.
+#[derive(Clone, Copy, Debug, PartialEq, Eq, Hash)]
+pub enum RefusalKind {
+    /// 1 to 8: the term is not well formed.
+    Form(FormFault),
+    /// 9: the allowance is not 1 to 65,535.
+    Allowance,
+    /// 10: too little work memory. [`Desugarer`](crate::Desugarer) always lends enough.
+    WorkMemory,
+    /// 11: an unknown alias in an assignment, a test or a match.
+    UnknownAlias,
+    /// 12: an unbound variable.
+    UnboundVariable,
+    /// 13: an alias used as a variable.
+    AliasAsVariable,
+    /// 14: a range that ends below its start.
+    RangeEndBelowStart,
+    /// 15: a literal that is longer than the alias, or an Exact pattern that is longer than its field.
+    LiteralTooLong,
+    /// 16: a literal that does not have exactly the width of its range.
+    LiteralWidth,
+    /// 17: a CIDR prefix above the width.
+    CidrPrefix,
+    /// 18: a CIDR address whose length is not the width.
+    CidrAddress,
+    /// 19: a wildcard address or mask whose length is not the width.
+    WildcardWidth,
+    /// 20: a range pattern on a field over 128 bits, or with a bound that is longer than the field.
+    IpRangeWidth,
+    /// 21: a range pattern that starts above its end.
+    IpRangeOrder,
+    /// 22: the negation of a non-test.
+    NegatedNonTest,
+    /// 23: the condition of an if is not a test.
+    ConditionNotTest,
+    /// 24: the core needs more nodes than the allowance.
+    AllowanceSpent,
+    /// 25: field 4,294,967,295, which no field count can include.
+    FieldCount,
+    /// 26: the answer buffer is too short. The functions of this crate always lend a buffer that is long enough.
+    BufferTooShort,
+    /// 27: the result of a substitution has more than 4,096 records or 256 levels.
+    ResultTooLarge,
+    /// 28: a subrange that is not inside its alias.
+    SubrangeOutside,
+    /// 31 to 38: the replacement of a substitution is not well formed. The place is a record of the replacement.
+    Replacement(FormFault),
+    /// Any other number. The library gives none.
+    Unknown,
+}
+
+/// How a term's form is broken: numbers 1 to 8 for a term, 31 to 38 for a replacement.
+#[derive(Clone, Copy, Debug, PartialEq, Eq, Hash)]
+pub enum FormFault {
+    /// 1: the bytes end too early.
+    EndsEarly,
+    /// 2: no such kind.
+    UnknownKind,
+    /// 3: a field that the kind, or the pattern, does not have.
+    ForeignField,
+    /// 4: a zero or empty field that is written out, or spare bits that are not zero.
+    ZeroWritten,
+    /// 5: a value out of range.
+    OutOfRange,
+    /// 6: more than 4,096 records.
+    TooManyRecords,
+    /// 7: more than 256 levels.
+    TooDeep,
+    /// 8: bytes left over.
+    LeftOver,
+}
+
+impl FormFault {
+    fn from_number(number: u32) -> Option<Self> {
+        Some(match number {
+            1 => Self::EndsEarly,
+            2 => Self::UnknownKind,
+            3 => Self::ForeignField,
+            4 => Self::ZeroWritten,
+            5 => Self::OutOfRange,
+            6 => Self::TooManyRecords,
+            7 => Self::TooDeep,
+            8 => Self::LeftOver,
+            _ => return None,
+        })
+    }
+
+    fn sentence(self) -> &'static str {
+        match self {
+            Self::EndsEarly => "the bytes end before the policy is complete",
+            Self::UnknownKind => "the bytes name a kind of expression that does not exist here",
+            Self::ForeignField => "the bytes give this kind of expression a part that it does not have",
+            Self::ZeroWritten => "the bytes write out a part that is zero or empty, or set bits beyond the end of a value",
+            Self::OutOfRange => {
+                "a value is out of range: a literal may have at most 128 bits, a CIDR prefix may be at most 255, \
+                 a one-bit value is 0 or 1, and there are four patterns"
+            }
+            Self::TooManyRecords => "the policy has more than 4,096 expressions",
+            Self::TooDeep => "the policy is nested more than 256 levels deep",
+            Self::LeftOver => "there are bytes left over behind the end of the policy",
+        }
+    }
+}
+
+impl RefusalKind {
+    fn from_number(number: u32) -> Self {
+        if let Some(fault) = FormFault::from_number(number) {
+            return Self::Form(fault);
+        }
+        if let Some(fault) = number.checked_sub(30).and_then(FormFault::from_number) {
+            return Self::Replacement(fault);
+        }
+        match number {
+            9 => Self::Allowance,
+            10 => Self::WorkMemory,
+            11 => Self::UnknownAlias,
+            12 => Self::UnboundVariable,
+            13 => Self::AliasAsVariable,
+            14 => Self::RangeEndBelowStart,
+            15 => Self::LiteralTooLong,
+            16 => Self::LiteralWidth,
+            17 => Self::CidrPrefix,
+            18 => Self::CidrAddress,
+            19 => Self::WildcardWidth,
+            20 => Self::IpRangeWidth,
+            21 => Self::IpRangeOrder,
+            22 => Self::NegatedNonTest,
+            23 => Self::ConditionNotTest,
+            24 => Self::AllowanceSpent,
+            25 => Self::FieldCount,
+            26 => Self::BufferTooShort,
+            27 => Self::ResultTooLarge,
+            28 => Self::SubrangeOutside,
+            _ => Self::Unknown,
+        }
+    }
+
+    fn sentence(self) -> &'static str {
+        match self {
+            Self::Form(fault) | Self::Replacement(fault) => fault.sentence(),
+            Self::Allowance => "the allowance must be from 1 to 65,535 nodes",
+            Self::WorkMemory => "the work memory is too small for the allowance",
+            Self::UnknownAlias => "no let around this use gives the alias a range of fields",
+            Self::UnboundVariable => "no let around this use defines the variable",
+            Self::AliasAsVariable => {
+                "this name is an alias of a range of fields: it can be assigned, tested or matched, but is not a policy by itself"
+            }
+            Self::RangeEndBelowStart => "the range of fields ends below its start",
+            Self::LiteralTooLong => "the value has more bits than the range of fields has room for",
+            Self::LiteralWidth => "the value must have exactly as many bits as the range has fields",
+            Self::CidrPrefix => "the CIDR prefix is longer than the range of fields",
+            Self::CidrAddress => "the CIDR address must have exactly as many bits as the range has fields",
+            Self::WildcardWidth => "the wildcard's address and mask must each have exactly as many bits as the range has fields",
+            Self::IpRangeWidth => {
+                "an address range needs a range of at most 128 fields, and neither bound may have more bits than that range"
+            }
+            Self::IpRangeOrder => "the address range starts above its end",
+            Self::NegatedNonTest => "only a test can be negated, and this operand is not a test",
+            Self::ConditionNotTest => "the condition of an if must be a test",
+            Self::AllowanceSpent => "the core needs more nodes than the allowance, which is spent here",
+            Self::FieldCount => "field 4,294,967,295 is used, and the count of fields would be too large a number",
+            Self::BufferTooShort => "the answer does not fit in its buffer",
+            Self::ResultTooLarge => "with the replacement, the policy has more than 4,096 expressions or 256 levels",
+            Self::SubrangeOutside => "the part that is asked for does not lie inside the alias's range",
+            Self::Unknown => "the library gave a refusal that is not known here",
+        }
+    }
+
+    /// Whether the refusal's place is a record. That of left over bytes is the record count.
+    fn has_place(self) -> bool {
+        !matches!(
+            self,
+            Self::Form(FormFault::LeftOver)
+                | Self::Replacement(FormFault::LeftOver)
+                | Self::Allowance
+                | Self::WorkMemory
+                | Self::BufferTooShort
+                | Self::ResultTooLarge
+                | Self::SubrangeOutside
+        )
+    }
+}
+
+impl Refusal {
+    /// What the refusal is about.
+    pub fn kind(&self) -> RefusalKind {
+        RefusalKind::from_number(self.number)
+    }
+
+    /// The same fault of form, in a replacement.
+    pub(crate) fn in_replacement(self) -> Self {
+        Refusal { number: self.number + 30, ..self }
+    }
+}
+
+/// A sentence for the policy's author, then the record and the number.
+impl fmt::Display for Refusal {
+    fn fmt(&self, f: &mut fmt::Formatter<'_>) -> fmt::Result {
+        let kind = self.kind();
+        if matches!(kind, RefusalKind::Replacement(_)) {
+            f.write_str("in the replacement: ")?;
+        }
+        f.write_str(kind.sentence())?;
+        if kind.has_place() {
+            write!(f, " (record {}, refusal {})", self.place, self.number)
+        } else {
+            write!(f, " (refusal {})", self.number)
+        }
+    }
+}
+
+impl Error for Refusal {}

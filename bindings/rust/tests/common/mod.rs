@@ -1,0 +1,127 @@
+//! A small generator of terms. The same seed gives the same terms.
+
+use netkat::{Exp, Expr, Pattern};
+
+pub struct Random(u64);
+
+impl Random {
+    pub fn new(seed: u64) -> Self {
+        Random(seed)
+    }
+
+    /// The next number (splitmix64).
+    fn next(&mut self) -> u64 {
+        self.0 = self.0.wrapping_add(0x9e37_79b9_7f4a_7c15);
+        let mut z = self.0;
+        z = (z ^ z >> 30).wrapping_mul(0xbf58_476d_1ce4_e5b9);
+        z = (z ^ z >> 27).wrapping_mul(0x94d0_49bb_1331_11eb);
+        z ^ z >> 31
+    }
+
+    /// A number below `bound`.
+    pub fn below(&mut self, bound: usize) -> usize {
+        (self.next() % bound as u64) as usize
+    }
+
+    fn flag(&mut self) -> bool {
+        self.below(2) == 1
+    }
+
+    fn bits(&mut self, length: usize) -> Vec<bool> {
+        (0..length).map(|_| self.flag()).collect()
+    }
+
+    fn literal(&mut self) -> Vec<bool> {
+        let length = if self.below(20) == 0 { 128 } else { self.below(10) };
+        self.bits(length)
+    }
+
+    fn name(&mut self) -> u16 {
+        [0, 1, 2, 258, u16::MAX][self.below(5)]
+    }
+
+    fn field(&mut self) -> u32 {
+        match self.below(20) {
+            0 => u32::MAX,
+            1 => 0x0102_0304,
+            _ => self.below(12) as u32,
+        }
+    }
+
+    /// A range and its width; now and then one that ends below its start.
+    fn range(&mut self) -> (u32, u32, usize) {
+        let start = self.below(12) as u32;
+        if self.below(15) == 0 {
+            return (start + 3, start, 0);
+        }
+        let width = self.below(9);
+        (start, start + width as u32, width)
+    }
+
+    /// A pattern for a range of this width; now and then one that does not suit it.
+    fn pattern(&mut self, width: usize) -> Pattern {
+        let width = if self.below(6) == 0 { self.below(10) } else { width };
+        match self.below(4) {
+            0 => Pattern::Exact(self.bits(width)),
+            1 => Pattern::Cidr { address: self.bits(width), prefix_len: self.below(width + 2) },
+            2 => Pattern::Wildcard { address: self.bits(width), mask: self.bits(width) },
+            _ => Pattern::IpRange { start: self.bits(width), end: self.bits(width) },
+        }
+    }
+
+    /// A term of at most `depth` levels, which has every kind in it now and then.
+    pub fn term(&mut self, depth: usize) -> Exp {
+        if depth <= 1 {
+            return self.leaf();
+        }
+        let d = depth - 1;
+        match self.below(18) {
+            0 => Expr::union(self.term(d), self.term(d)),
+            1 => Expr::intersect(self.term(d), self.term(d)),
+            2 => Expr::xor(self.term(d), self.term(d)),
+            3 => Expr::difference(self.term(d), self.term(d)),
+            4 | 5 => Expr::sequence(self.term(d), self.term(d)),
+            6 => Expr::ltl_until(self.term(d), self.term(d)),
+            7 => Expr::complement(self.term(d)),
+            8 => Expr::star(self.term(d)),
+            9 => Expr::ltl_next(self.term(d)),
+            10 | 11 => Expr::test_negation(self.term(d)),
+            12 => Expr::if_then_else(self.term(d), self.term(d), self.term(d)),
+            13 | 14 => Expr::let_in(self.name(), self.term(d), self.term(d)),
+            15 | 16 => {
+                let (start, end, _) = self.range();
+                Expr::let_bit_range(self.name(), start, end, self.term(d))
+            }
+            _ => self.leaf(),
+        }
+    }
+
+    fn leaf(&mut self) -> Exp {
+        match self.below(16) {
+            0 => Expr::zero(),
+            1 => Expr::one(),
+            2 => Expr::top(),
+            3 => Expr::dup(),
+            4 => Expr::end(),
+            5 => Expr::assign(self.field(), self.flag()),
+            6 | 7 => Expr::test(self.field(), self.flag()),
+            8 => Expr::var(self.name()),
+            9 => Expr::var_assign(self.name(), self.literal()),
+            10 => Expr::var_test(self.name(), self.literal()),
+            11 => Expr::var_match(self.name(), self.pattern(4)),
+            12 => {
+                let (start, end, width) = self.range();
+                Expr::bit_range_assign(start, end, self.bits(width))
+            }
+            13 => {
+                let (start, end, width) = self.range();
+                Expr::bit_range_test(start, end, self.bits(width))
+            }
+            14 => Expr::bit_range_test(self.field(), self.field(), self.literal()),
+            _ => {
+                let (start, end, width) = self.range();
+                Expr::bit_range_match(start, end, self.pattern(width))
+            }
+        }
+    }
+}

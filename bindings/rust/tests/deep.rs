@@ -1,0 +1,109 @@
+//! Deep cores and terms: nothing may need a stack that grows with the depth.
+
+use std::thread;
+
+use netkat::{bits, Core, Desugarer, Exp, Expr};
+
+/// Runs in a thread with a stack of so many KiB.
+fn on_a_stack_of(kib: usize, work: impl FnOnce() + Send + 'static) {
+    thread::Builder::new().stack_size(kib * 1024).spawn(work).unwrap().join().unwrap();
+}
+
+/// Runs in a thread whose stack is far too small for recursion over a deep tree.
+fn on_a_small_stack(work: impl FnOnce() + Send + 'static) {
+    on_a_stack_of(64, work);
+}
+
+#[test]
+fn core_of_60_000_levels() {
+    on_a_small_stack(|| {
+        let mut bytes = [1, 15].repeat(59_999); // LtlNext
+        bytes.push(0); // Zero
+        let core = Core::from_bytes(&bytes).unwrap();
+        assert_eq!(core.nodes().count(), 60_000);
+        assert_eq!(core.to_bytes(), bytes);
+        let copy = core.clone();
+        assert!(copy == core);
+        drop(core);
+        assert_eq!(format!("{copy:?}"), format!("{}Zero{}", "LtlNext(".repeat(59_999), ")".repeat(59_999)));
+        let expr = copy.to_expr();
+        drop(copy);
+        assert_eq!(expr.clone().nodes().count(), 60_000);
+        assert_eq!(expr.check().unwrap_err().number, 7);
+    });
+}
+
+#[test]
+fn core_that_the_library_made() {
+    // An alias of 30,001 fields: a chain of as many tests.
+    let wide = Expr::let_bit_range(1, 0, 30_001, Expr::var_test(1, bits(1, 1)));
+    let desugared = Desugarer::new().desugar(&wide).unwrap();
+    assert_eq!(desugared.drawn, 60_001);
+    on_a_small_stack(move || {
+        let core = desugared.core;
+        assert_eq!(core.nodes().count(), 60_001);
+        assert_eq!(Core::from_bytes(&core.to_bytes()).unwrap(), core);
+    });
+}
+
+#[test]
+fn core_that_leans_left() {
+    on_a_small_stack(|| {
+        let core = (0..60_000).fold(Core::One, |rest, field| Core::Sequence(Box::new(rest), Box::new(Core::Assign(field, true))));
+        let copy = core.clone();
+        assert!(copy == core);
+    });
+}
+
+#[test]
+fn children_can_be_taken() {
+    let mut core = Core::Union(Box::new(Core::Test(0, true)), Box::new(Core::Dup));
+    let Core::Union(a, b) = &mut core else { unreachable!() };
+    let (a, b) = (std::mem::take(&mut **a), std::mem::take(&mut **b));
+    assert_eq!((a, b), (Core::Test(0, true), Core::Dup));
+    assert_eq!(core, Core::Union(Box::new(Core::Zero), Box::new(Core::Zero)));
+}
+
+/// The library recurses over a term, whose depth is limited.
+#[test]
+fn deepest_terms() {
+    on_a_stack_of(512, || {
+        let wraps: [fn(Exp) -> Exp; 6] = [
+            Expr::star,
+            Expr::test_negation,
+            |body| Expr::let_in(1, Expr::one(), body),
+            |body| Expr::let_bit_range(1, 0, 4, body),
+            |body| Expr::union(Expr::one(), body),
+            |body| Expr::if_then_else(Expr::one(), Expr::one(), body),
+        ];
+        for wrap in wraps {
+            let term = (1..256).fold(Expr::one(), |body, _| wrap(body));
+            assert!(term.check().is_ok());
+            assert!(term.desugar().is_ok());
+            assert_eq!(term.substitute(9, &Expr::Dup).as_ref(), Ok(&term));
+            assert_eq!(Expr::one().substitute(9, &term), Ok(Expr::one()));
+            assert!(term.is_test_fragment().is_ok());
+            assert!(term.num_fields().is_ok());
+            assert_eq!(wrap(term).check().unwrap_err().number, 7);
+        }
+    });
+}
+
+#[test]
+fn threads_with_a_desugarer_each() {
+    let threads: Vec<_> = (0..4)
+        .map(|field| {
+            thread::spawn(move || {
+                let mut desugarer = Desugarer::with_allowance(100);
+                let term = Expr::bit_range_test(field, field + 8, bits(0x5a, 8));
+                let first = desugarer.desugar(&term).unwrap();
+                for _ in 0..200 {
+                    assert_eq!(desugarer.desugar(&term).unwrap(), first);
+                }
+            })
+        })
+        .collect();
+    for thread in threads {
+        thread.join().unwrap();
+    }
+}
