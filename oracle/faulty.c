@@ -1,0 +1,65 @@
+/* A fault of the port, for selftest.sh: stands before one function of the library, whose true one is called true_NAME. */
+#include "netkat.h"
+
+#if defined(VALUE_WITH_REFUSAL) || defined(ALWAYS_A_TEST)
+netkat_answer true_check(const uint8_t *term, size_t term_len);
+netkat_answer netkat_check(const uint8_t *term, size_t term_len) {
+    netkat_answer a = true_check(term, term_len);
+#ifdef VALUE_WITH_REFUSAL
+    if (a.number == 22) a.first = 1;
+#else
+    if (a.number == 0) a.first = 1;
+#endif
+    return a;
+}
+
+#elif defined(WRONG_RESULT)
+netkat_answer true_substitute(const uint8_t *term, size_t term_len, uint16_t name, const uint8_t *replacement, size_t replacement_len,
+                              uint8_t *out, size_t out_len);
+netkat_answer netkat_substitute(const uint8_t *term, size_t term_len, uint16_t name, const uint8_t *replacement, size_t replacement_len,
+                                uint8_t *out, size_t out_len) {
+    netkat_answer a = true_substitute(term, term_len, name, replacement, replacement_len, out, out_len);
+    if (a.number == 0 && a.first > 30) out[a.first - 1] ^= 1;
+    return a;
+}
+
+#elif defined(NEVER_25)
+netkat_answer true_num_fields(const uint8_t *term, size_t term_len);
+netkat_answer netkat_num_fields(const uint8_t *term, size_t term_len) {
+    netkat_answer a = true_num_fields(term, term_len);
+    if (a.number == 25) a = (netkat_answer){0, 0, 0, 0};
+    return a;
+}
+
+#elif defined(WRONG_END)
+netkat_answer true_compute_subrange(uint32_t alias_start, uint32_t alias_end, uint32_t sub_start, uint32_t sub_end);
+netkat_answer netkat_compute_subrange(uint32_t alias_start, uint32_t alias_end, uint32_t sub_start, uint32_t sub_end) {
+    netkat_answer a = true_compute_subrange(alias_start, alias_end, sub_start, sub_end);
+    if (a.number == 0 && a.second == alias_end) a = (netkat_answer){28, 0, 0, 0};
+    return a;
+}
+
+#else
+netkat_answer true_desugar(const uint8_t *term, size_t term_len, uint32_t allowance, uint32_t *work, size_t work_len, uint8_t *out,
+                           size_t out_len);
+netkat_answer netkat_desugar(const uint8_t *term, size_t term_len, uint32_t allowance, uint32_t *work, size_t work_len, uint8_t *out,
+                             size_t out_len) {
+    netkat_answer a = true_desugar(term, term_len, allowance, work, work_len, out, out_len);
+#if defined(WRONG_DRAWN)
+    if (a.number == 0 && a.second > 500) a.second++;
+#elif defined(WRONG_PLACE)
+    if (a.number == 18) a.place++;
+#elif defined(WRONG_CORE)
+    if (a.number == 0 && a.first > 500) out[a.first / 2] ^= 1;
+#elif defined(BYTE_ON_REFUSAL)
+    if (a.number == 26 && out_len > 0) out[0] ^= 1;
+#elif defined(BYTE_BEHIND_ANSWER)
+    if (a.number == 0) out[a.first] ^= 1; /* the comparison has memory behind what it lends */
+#elif defined(NUMBER_BEHIND_WORK)
+    if (a.number == 0) work[work_len] = 0;
+#else
+#error no fault chosen
+#endif
+    return a;
+}
+#endif

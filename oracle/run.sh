@@ -1,0 +1,40 @@
+#!/bin/sh
+# Compares the model, the original, the port and second.py. Prints what was compared; ends with 1 on a difference.
+#   ORACLE_SEEDS   folder with the original's expr.rs and desugar.rs (or src--src--expr.rs.txt and src--src--desugar.rs.txt)
+#   SEED (1), COUNT (300000) random inputs, THREADS (1)
+# Needs cargo and python3; also the Rattle kit (rt), unless target/staticlib/libnetkat.a is there.
+if [ ! -d "${ORACLE_SEEDS:-}" ]; then
+    echo "run.sh: set ORACLE_SEEDS to the folder that holds the original's expr.rs and desugar.rs" >&2
+    exit 2
+fi
+ORACLE_SEEDS=$(cd "$ORACLE_SEEDS" && pwd)
+export ORACLE_SEEDS
+cd "$(dirname "$0")" || exit 2
+SEED=${SEED:-1} COUNT=${COUNT:-300000} THREADS=${THREADS:-1}
+
+if [ ! -f ../target/staticlib/libnetkat.a ]; then
+    command -v rt > /dev/null || { echo "run.sh: no target/staticlib/libnetkat.a, and no rt to build it" >&2; exit 2; }
+    (cd .. && rt staticlib netkat) || exit 2
+fi
+target=../target/oracle
+cargo build --release --offline --quiet --target-dir "$target" || exit 2
+oracle=$target/release/oracle
+sample=$target/sample.txt
+vectors="vectors/operations.txt vectors/program.txt ../tests/probes.txt"
+
+differences=0
+step() {
+    echo "== $*"
+    "$@" || differences=1
+}
+step "$oracle" replay $vectors
+step python3 second.py $vectors
+step "$oracle" exhaustive 2
+step "$oracle" compare "$SEED" "$COUNT" 40 "$THREADS"
+step "$oracle" compare $((SEED + 1)) $((COUNT / 30)) 400 "$THREADS"
+step "$oracle" meaning "$SEED" $((COUNT / 3))
+"$oracle" sample "$SEED" $((COUNT / 10)) 30 > "$sample" || differences=1
+step "$oracle" replay "$sample"
+step python3 second.py "$sample"
+[ $differences = 0 ] && echo "NO DIFFERENCE" || echo "DIFFERENCES"
+exit $differences

@@ -1,0 +1,142 @@
+#!/bin/sh
+# Does the comparison see a fault? Puts one fault at a time into a copy of the original, then of the port, and wants a difference reported.
+# Needs ORACLE_SEEDS (see run.sh), target/staticlib/libnetkat.a, cc, ar and objcopy. ONLY=NAME tries one fault.
+if [ ! -d "${ORACLE_SEEDS:-}" ]; then
+    echo "selftest.sh: set ORACLE_SEEDS to the folder that holds the original's expr.rs and desugar.rs" >&2
+    exit 2
+fi
+true_seeds=$(cd "$ORACLE_SEEDS" && pwd)
+cd "$(dirname "$0")" || exit 2
+top=$(cd .. && pwd)/target/selftest
+seeds=$top/seeds library=$top/library report=$top/report.txt
+mkdir -p "$seeds" "$library"
+seen=0 missed=0
+
+miss() {
+    echo "MISSED $1"
+    missed=$((missed + 1))
+}
+
+# fault NAME PATTERN: builds, compares, and wants a line DIFFERENCE with the pattern, or the end of the process by a fault
+fault() {
+    cargo build --release --offline --quiet --target-dir "$top" 2> "$report" || { miss "$1: no build"; return; }
+    if "$top/release/oracle" compare 5 "${COUNT:-30000}" 40 1 > "$report" 2>&1; then
+        miss "$1"
+    elif grep -q "DIFFERENCE $2" "$report"; then
+        seen=$((seen + 1))
+        echo "seen   $1: $(grep "DIFFERENCE $2" "$report" | head -1 | cut -c12-110)"
+    elif ! grep -q DIFFERENCE "$report"; then
+        seen=$((seen + 1))
+        echo "seen   $1: the process ended"
+    else
+        miss "$1: another difference"
+    fi
+}
+
+# original NAME FILE OLD NEW: the first OLD in a copy of the original's file becomes NEW
+original() {
+    [ -z "$ONLY" ] || [ "$ONLY" = "$1" ] || return
+    for f in expr desugar; do
+        cp "$true_seeds/$f.rs" "$seeds/$f.rs" 2> /dev/null || cp "$true_seeds/src--src--$f.rs.txt" "$seeds/$f.rs" || exit 2
+    done
+    python3 - "$seeds/$2.rs" "$3" "$4" <<'END' || { miss "$1: not in the original"; return; }
+import sys
+path, old, new = sys.argv[1:]
+text = open(path).read()
+if old not in text:
+    sys.exit(1)
+open(path, "w").write(text.replace(old, new, 1))
+END
+    ORACLE_SEEDS=$seeds fault "$1" ORIGINAL
+}
+
+# port NAME FUNCTION: a copy of the library in which faulty.c stands before FUNCTION
+port() {
+    [ -z "$ONLY" ] || [ "$ONLY" = "$1" ] || return
+    objcopy --redefine-sym "netkat_$2=true_$2" ../target/staticlib/libnetkat.a "$library/libnetkat.a" &&
+        cc -Wall -O1 -I../include -D"$1" -c faulty.c -o "$top/faulty.o" &&
+        ar r "$library/libnetkat.a" "$top/faulty.o" || { miss "$1: no library"; return; }
+    NETKAT_LIB_DIR=$library fault "$1" PORT
+}
+
+original "left One first" desugar \
+    '(Expr::One, _) => d2,' \
+    '(Expr::One, Expr::Zero) => d1, (Expr::One, _) => d2,'
+original "right One kept" desugar \
+    '(_, Expr::One) => d1,' \
+    ''
+original "difference not desugared again" desugar \
+    'let d2 = desugar(e2)?;
+            Ok(Expr::union(n1, d2))' \
+    'let d2 = e2.clone();
+            Ok(Expr::union(n1, d2))'
+original "xor by complement" desugar \
+    'Ok(Expr::difference(Expr::one(), Expr::xor(e1.clone(), e2.clone())))' \
+    'Ok(Expr::complement(Expr::xor(e1.clone(), e2.clone())))'
+original "padding at the low end" desugar \
+    'expanded.resize(expected_bits, false);
+                    // Recursively desugar the bit range test' \
+    'while expanded.len() < expected_bits { expanded.insert(0, false); }
+                    //'
+original "alias judged where bound" desugar \
+    'let new_env = env.with_alias(alias_name.clone(), *start, *end);' \
+    'bit_range_width(*start, *end)?; let new_env = env.with_alias(alias_name.clone(), *start, *end);'
+original "if drops One" desugar \
+    'Expr::sequence(d_cond, d_then),' \
+    'if *d_then == Expr::One { d_cond } else { Expr::sequence(d_cond, d_then) },'
+original "cidr length before prefix" desugar \
+    'if *prefix_len > width {' \
+    'if address.len() != width { return Err(DesugarError { message: "CIDR address has".into() }); } if *prefix_len > width {'
+original "range order before width" desugar \
+    'if range_start.len() > width ||' \
+    'if bits_to_u128(range_start)? > bits_to_u128(range_end)? { return Err(DesugarError { message: "Invalid range: start is greater than end".into() }); } if range_start.len() > width ||'
+original "no single value case" desugar \
+    'if start_val == end_val {' \
+    'if false {'
+original "129 bits allowed" desugar \
+    '|| width > 128 {' \
+    '|| width > 129 {'
+original "condition judged first" desugar \
+    'let d_then = desugar_with_env(then_expr, env)?;' \
+    'if !d_cond.is_test_fragment() { return Err(DesugarError { message: "If-then-else condition must".into() }); } let d_then = desugar_with_env(then_expr, env)?;'
+original "definition only when used" desugar \
+    'let d_def = desugar_with_env(def, env)?;' \
+    'let d_def = match desugar_with_env(def, env) { Ok(d) => d, Err(_) => Expr::zero() };'
+original "alias shadows variable" desugar \
+    'if let Some(expr) = env.lookup_variable(name) {' \
+    'if env.lookup_alias(name).is_some() { return Err(DesugarError { message: "Bit range alias '"'"'x".into() }); } if let Some(expr) = env.lookup_variable(name) {'
+original "upper bound bit 0" desugar \
+    'for i in (0..upper_bound.len()).rev() {' \
+    'for i in (0..upper_bound.len()).rev().filter(|i| *i > 0 || upper_bound.len() < 7) {'
+original "substitute into own let" expr \
+    'Expr::let_in(bound_var.clone(), def.substitute(var, replacement), body.clone())' \
+    'Expr::let_in(bound_var.clone(), def.substitute(var, replacement), body.substitute(var, replacement))'
+original "substitute under alias" expr \
+    'Expr::let_bit_range(alias_name.clone(), *start, *end, body.clone())' \
+    'Expr::let_bit_range(alias_name.clone(), *start, *end, body.substitute(var, replacement))'
+original "fragment of negation" expr \
+    'Expr::TestNegation(e) => e.is_test_fragment(),' \
+    'Expr::TestNegation(_) => true,'
+original "fields of an alias range" expr \
+    '(*end).max(body.num_fields())' \
+    'body.num_fields()'
+original "subrange end" desugar \
+    'sub_start <= sub_end && actual_end <= alias_end' \
+    'sub_start <= sub_end && actual_end < alias_end'
+
+ORACLE_SEEDS=$true_seeds
+export ORACLE_SEEDS
+port WRONG_DRAWN desugar
+port WRONG_PLACE desugar
+port WRONG_CORE desugar
+port BYTE_ON_REFUSAL desugar
+port BYTE_BEHIND_ANSWER desugar
+port NUMBER_BEHIND_WORK desugar
+port VALUE_WITH_REFUSAL check
+port ALWAYS_A_TEST check
+port WRONG_RESULT substitute
+port NEVER_25 num_fields
+port WRONG_END compute_subrange
+
+echo "$seen seen, $missed missed"
+[ $missed = 0 ]

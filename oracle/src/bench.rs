@@ -1,0 +1,150 @@
+//! Times of the port and of the original, on policies of a folder and of policies.rs.
+use crate::desugar::desugar;
+use crate::expr::Expr;
+use crate::model::{decode, desugar_walk, work_needed, Env, Meter};
+use crate::{original, policies, port};
+use std::hint::black_box;
+use std::time::Instant;
+
+const ALLOWANCE: u64 = 65535;
+const LONGEST_CORE: usize = 7 * 65535;
+const ROUNDS: usize = 41;
+/// Calls are timed together until they take about this long.
+const BATCH_MICROSECONDS: f64 = 500.0;
+/// The copy of a core's records is timed from this many nodes on.
+const MANY_NODES: u64 = 5000;
+
+// What is timed, as indexes.
+const PORT: usize = 0; // netkat_desugar, work memory and answer buffer reused
+const ORIGINAL: usize = 1; // bytes to tree, desugar, tree to bytes, trees freed
+const BARE: usize = 2; // the original's desugar on a tree already built, its result freed outside the time
+const CHECK: usize = 3; // netkat_check
+const COPY: usize = 4; // memcpy of 12 bytes for each core node
+const TIMED: usize = 5;
+
+struct Policy {
+    name: String,
+    term: Vec<u8>,
+    tree: Box<Expr>,
+    core_len: usize,
+    nodes: u64,
+    drawn: u64,
+}
+
+struct Buffers {
+    work: Vec<u32>,
+    out: Vec<u8>,
+    original_out: Vec<u8>,
+    records: Vec<u8>,
+    copy: Vec<u8>,
+}
+
+fn load(folder: &str) -> Vec<(String, Vec<u8>)> {
+    let entries = std::fs::read_dir(folder).unwrap_or_else(|e| panic!("{folder}: {e}"));
+    let mut paths: Vec<_> = entries.map(|e| e.unwrap().path()).filter(|p| p.extension().is_some_and(|x| x == "bin")).collect();
+    paths.sort();
+    let mut all = policies::all();
+    all.extend(paths.iter().map(|p| (p.file_stem().unwrap().to_string_lossy().into_owned(), std::fs::read(p).unwrap())));
+    all
+}
+
+/// The policy with its figures; both sides must give the same core.
+fn prepare(name: String, term: Vec<u8>, b: &mut Buffers) -> Policy {
+    let (node, _) = decode(&term).unwrap_or_else(|e| panic!("{name}: no good form, {e:?}"));
+    let core = desugar_walk(&node, &mut Env::new(), &mut Meter::new(ALLOWANCE)).unwrap_or_else(|e| panic!("{name}: refused, {e:?}"));
+    let (len, drawn) = port::desugar_into(&term, ALLOWANCE, &mut b.work, &mut b.out).unwrap();
+    by_original(&term, &mut b.original_out);
+    assert!(b.out[..len as usize] == b.original_out[..], "{name}: the cores differ");
+    let tree = original::read(&term).unwrap();
+    Policy { name, term, tree, core_len: len as usize, nodes: core.size, drawn: drawn as u64 }
+}
+
+fn by_original(term: &[u8], out: &mut Vec<u8>) {
+    out.clear();
+    let core = desugar(&original::read(term).unwrap()).unwrap();
+    original::write_core(&core, out);
+}
+
+/// Microseconds of one call, from `calls` of them. What a call gives is freed outside the time.
+fn microseconds<T>(calls: usize, mut call: impl FnMut() -> T) -> f64 {
+    let mut kept = Vec::with_capacity(calls);
+    let begin = Instant::now();
+    for _ in 0..calls {
+        kept.push(black_box(call()));
+    }
+    begin.elapsed().as_secs_f64() * 1e6 / calls as f64
+}
+
+fn measure(p: &Policy, what: usize, calls: usize, b: &mut Buffers) -> f64 {
+    let term = black_box(&p.term);
+    match what {
+        PORT => microseconds(calls, || port::desugar_into(term, ALLOWANCE, &mut b.work, &mut b.out).unwrap()),
+        ORIGINAL => microseconds(calls, || by_original(term, &mut b.original_out)),
+        BARE => microseconds(calls, || desugar(black_box(&p.tree)).unwrap()),
+        CHECK => microseconds(calls, || port::check(term).unwrap()),
+        _ => {
+            let len = 12 * p.nodes as usize;
+            microseconds(calls, || b.copy[..len].copy_from_slice(black_box(&b.records[..len])))
+        }
+    }
+}
+
+/// Lower quartile, median, upper quartile.
+fn quartiles(mut v: Vec<f64>) -> [f64; 3] {
+    v.sort_by(|a, b| a.total_cmp(b));
+    [1, 2, 3].map(|q| v[(v.len() - 1) * q / 4])
+}
+
+/// Rounds of all that is timed; every other round goes in the opposite order.
+fn rounds(p: &Policy, b: &mut Buffers) -> Vec<[f64; TIMED]> {
+    let mut calls = [0; TIMED];
+    for what in 0..TIMED {
+        calls[what] = (BATCH_MICROSECONDS / measure(p, what, 2, b)).ceil().clamp(1.0, 5000.0) as usize;
+    }
+    let mut all = Vec::new();
+    for round in 0..ROUNDS {
+        let mut times = [0.0; TIMED];
+        for i in 0..TIMED {
+            let what = if round % 2 == 0 { i } else { TIMED - 1 - i };
+            times[what] = measure(p, what, calls[what], b);
+        }
+        all.push(times);
+    }
+    all
+}
+
+pub fn run(folder: &str) -> bool {
+    let mut b = Buffers {
+        work: vec![0; work_needed(ALLOWANCE) as usize],
+        out: vec![0; LONGEST_CORE],
+        original_out: Vec::with_capacity(LONGEST_CORE),
+        records: vec![1; 12 * ALLOWANCE as usize],
+        copy: vec![0; 12 * ALLOWANCE as usize],
+    };
+    println!("Microseconds, medians of {ROUNDS} rounds; ratios of one round, median (lower quartile to upper quartile).");
+    println!("original: bytes to tree, desugar, tree to bytes. bare: its desugar on a built tree. copy: 12 bytes for each core node.\n");
+    println!(
+        "| policy | term bytes | core bytes | nodes | drawn | port | original | bare | check | copy | port / original | port / bare | \
+         check / port |"
+    );
+    println!("|{}", "---|".repeat(13));
+    for (name, term) in load(folder) {
+        let p = prepare(name, term, &mut b);
+        let all = rounds(&p, &mut b);
+        let time = |what: usize| {
+            let median = quartiles(all.iter().map(|t| t[what]).collect())[1];
+            if median < 10.0 { format!("{median:.2}") } else { format!("{median:.0}") }
+        };
+        let ratio = |what: usize, over: usize| {
+            let [low, median, high] = quartiles(all.iter().map(|t| t[what] / t[over]).collect());
+            format!("{median:.3} ({low:.3} to {high:.3})")
+        };
+        let copy = if p.nodes >= MANY_NODES { time(COPY) } else { "-".into() };
+        println!(
+            "| {} | {} | {} | {} | {} | {} | {} | {} | {} | {copy} | {} | {} | {} |",
+            p.name, p.term.len(), p.core_len, p.nodes, p.drawn, time(PORT), time(ORIGINAL), time(BARE), time(CHECK),
+            ratio(PORT, ORIGINAL), ratio(PORT, BARE), ratio(CHECK, PORT)
+        );
+    }
+    true
+}

@@ -1,0 +1,81 @@
+//! Four readings of document 01 beside each other: the model, the original, the ported library, and second.py on files.
+pub mod pre {
+    //! Two types that the original takes from a module of this name.
+    pub type Field = u32;
+    pub type Value = bool;
+}
+include!(concat!(env!("OUT_DIR"), "/modules.rs"));
+mod bench;
+mod compare;
+mod gen;
+mod meaning;
+mod model;
+mod original;
+mod policies;
+mod port;
+mod vectors;
+
+const USAGE: &str = "oracle replay FILE...                       vector files, through the model, the original and the port
+oracle compare SEED COUNT BUDGET THREADS    random inputs, terms of up to about BUDGET records
+oracle exhaustive LENGTH                    all byte strings up to LENGTH; beyond 2 bytes, those of good form
+oracle meaning SEED COUNT                   packet meaning of a written term and of its core, on six fields
+oracle sample SEED COUNT BUDGET             random vector lines with the model's answers
+oracle answer                               completes the vector lines on standard input, from what stands before =>
+oracle show HEX                             what each makes of one term
+oracle bench FOLDER                         times of the port and of the original";
+
+fn number(args: &[String], i: usize) -> u64 {
+    args.get(i).and_then(|s| s.parse().ok()).unwrap_or_else(|| {
+        eprintln!("{USAGE}");
+        std::process::exit(2)
+    })
+}
+
+fn run(args: Vec<String>) -> bool {
+    let n = |i| number(&args, i);
+    match args.get(1).map(|s| s.as_str()).unwrap_or("") {
+        "replay" => vectors::replay(&args[2..]),
+        "compare" => {
+            let (seed, count, budget, threads) = (n(2), n(3), n(4) as i64, n(5).max(1));
+            let parts: Vec<_> = (0..threads)
+                .map(|t| {
+                    let share = count / threads + (t < count % threads) as u64;
+                    on_large_stack(move || compare::random(seed.wrapping_mul(1000).wrapping_add(t), share, budget))
+                })
+                .collect();
+            let mut all = compare::Stats::default();
+            for part in parts {
+                all.merge(part.join().expect("a comparison thread ended early"));
+            }
+            all.print()
+        }
+        "exhaustive" => compare::exhaustive(n(2) as usize).print(),
+        "meaning" => meaning::run(n(2), n(3)),
+        "sample" => vectors::sample(n(2), n(3), n(4) as i64),
+        "answer" => vectors::answer(),
+        "show" if args.len() == 3 => compare::show(&vectors::unhex(&args[2])),
+        "bench" if args.len() == 3 => bench::run(&args[2]),
+        _ => {
+            eprintln!("{USAGE}");
+            false
+        }
+    }
+}
+
+/// A core is as deep as it is large, and the original recurses.
+fn on_large_stack<T: Send + 'static>(f: impl FnOnce() -> T + Send + 'static) -> std::thread::JoinHandle<T> {
+    std::thread::Builder::new().stack_size(1 << 30).spawn(f).unwrap()
+}
+
+fn main() {
+    // the original's num_fields panics where document 01 has refusal 25: no message for that
+    let hook = std::panic::take_hook();
+    std::panic::set_hook(Box::new(move |info| {
+        if !info.to_string().contains("Field count overflow") {
+            hook(info);
+        }
+    }));
+    let args: Vec<String> = std::env::args().collect();
+    let good = on_large_stack(move || run(args)).join().unwrap_or(false);
+    std::process::exit(!good as i32);
+}

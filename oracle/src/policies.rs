@@ -1,0 +1,116 @@
+//! Three policies that look like real ones, for `oracle bench`.
+use crate::gen::{node, Rng};
+use crate::model::*;
+
+const SRC: u16 = 1;
+const DST: u16 = 2;
+const PORT: u16 = 3;
+const OUT: u16 = 4;
+/// Variables are numbered from here on.
+const FIRST_VARIABLE: u16 = 100;
+
+fn literal(value: u32, width: usize) -> Vec<bool> {
+    (0..width).map(|i| value >> i & 1 == 1).collect()
+}
+fn two(kind: u8, a: Node, b: Node) -> Node {
+    node(kind, vec![a, b])
+}
+fn not(a: Node) -> Node {
+    node(NEGATION, vec![a])
+}
+fn var(name: u16) -> Node {
+    Node { kind: VAR, name, ..Node::default() }
+}
+fn let_in(name: u16, definition: Node, body: Node) -> Node {
+    Node { kind: LET, name, kids: vec![definition, body], ..Node::default() }
+}
+fn alias(name: u16, start: u32, end: u32, body: Node) -> Node {
+    Node { kind: LETRANGE, name, start, end, kids: vec![body], ..Node::default() }
+}
+fn prefix(name: u16, address: u32, length: u8) -> Node {
+    Node { kind: VARMATCH, name, pat: 1, num: length, a: literal(address, 32), ..Node::default() }
+}
+fn range(name: u16, width: usize, from: u32, to: u32) -> Node {
+    Node { kind: VARMATCH, name, pat: 3, a: literal(from, width), b: literal(to, width), ..Node::default() }
+}
+fn port_is(port: u32) -> Node {
+    Node { kind: VARMATCH, name: PORT, a: literal(port, 16), ..Node::default() }
+}
+fn send_to(out: u32) -> Node {
+    Node { kind: VARASSIGN, name: OUT, a: literal(out, 8), ..Node::default() }
+}
+fn with_aliases(body: Node) -> Node {
+    alias(SRC, 0, 32, alias(DST, 32, 64, alias(PORT, 64, 80, alias(OUT, 80, 88, body))))
+}
+/// A balanced tree of one operator; a chain of 200 would come near the depth limit.
+fn joined(kind: u8, mut items: Vec<Node>) -> Node {
+    if items.len() == 1 {
+        return items.pop().unwrap();
+    }
+    let back = items.split_off(items.len() / 2);
+    two(kind, joined(kind, items), joined(kind, back))
+}
+
+/// 200 entries: a source prefix, a destination prefix or, in each tenth, an address range, and a port or, in each eighth, a port range.
+fn access_list() -> Node {
+    let mut r = Rng::new(1);
+    let entries = (0..200)
+        .map(|i| {
+            let source = prefix(SRC, 0x0a00_0000 | r.below(1 << 24) as u32, 16 + r.below(9) as u8);
+            let network = 0xc0a8_0000 | (r.below(256) as u32) << 8;
+            let destination = match i % 10 {
+                0 => range(DST, 32, network + 1 + r.below(20) as u32, network + 100 + r.below(100) as u32),
+                _ => prefix(DST, network, 24),
+            };
+            let port = match i % 8 {
+                0 => range(PORT, 16, 1024 * (1 + r.below(8) as u32), 32767 + 1024 * r.below(8) as u32),
+                _ => port_is(*r.pick(&[22, 53, 80, 123, 443, 3306, 5432, 8080])),
+            };
+            two(INTERSECT, source, two(INTERSECT, destination, port))
+        })
+        .collect();
+    with_aliases(two(SEQUENCE, joined(UNION, entries), send_to(1)))
+}
+
+/// 40 rules, the first that matches counts: ifs in else branches, the last drops.
+fn first_match() -> Node {
+    let mut r = Rng::new(2);
+    let mut rest = node(ZERO, vec![]);
+    for i in (0..40).rev() {
+        let service = if i % 8 == 0 { range(PORT, 16, 8000, 8000 + r.below(1000) as u32) } else { port_is(r.below(10_000) as u32) };
+        let network = 0x0a00_0000 | (r.below(1 << 16) as u32) << 8;
+        let condition = two(INTERSECT, prefix(if i % 2 == 0 { SRC } else { DST }, network, 24), service);
+        let action = if i % 3 == 0 { node(ZERO, vec![]) } else { send_to(i) };
+        rest = node(IF, vec![condition, action, rest]);
+    }
+    with_aliases(rest)
+}
+
+/// 24 tenants, each with variables for its sources and its destinations. A tenant reaches itself and the shared services, unless the
+/// source is in quarantine; nothing else passes.
+fn tenants() -> Node {
+    let count = 24;
+    let source = |i: u16| FIRST_VARIABLE + 2 * i;
+    let destination = |i: u16| FIRST_VARIABLE + 2 * i + 1;
+    let (shared, quarantine) = (FIRST_VARIABLE + 2 * count, FIRST_VARIABLE + 2 * count + 1);
+    let flows = (0..count)
+        .map(|i| {
+            let reached = two(UNION, var(destination(i)), var(shared));
+            two(SEQUENCE, two(INTERSECT, var(source(i)), reached), send_to(i as u32))
+        })
+        .collect();
+    let mut body = two(SEQUENCE, not(var(quarantine)), joined(UNION, flows));
+    for i in (0..count).rev() {
+        let network = 0x0a00_0000 | (i as u32) << 16;
+        body = let_in(source(i), prefix(SRC, network, 16), let_in(destination(i), prefix(DST, network, 16), body));
+    }
+    let services = two(INTERSECT, prefix(DST, 0x0aff_0000, 24), two(UNION, port_is(53), port_is(443)));
+    let held = two(UNION, prefix(SRC, 0x0a05_0700, 24), range(SRC, 32, 0x0a09_0010, 0x0a09_004f));
+    with_aliases(let_in(shared, services, let_in(quarantine, held, body)))
+}
+
+pub fn all() -> Vec<(String, Vec<u8>)> {
+    [("access list, 200 entries", access_list()), ("first match, 40 rules", first_match()), ("tenant isolation", tenants())]
+        .map(|(name, tree)| (name.to_string(), encoded(&tree)))
+        .into()
+}

@@ -1,0 +1,116 @@
+//! The functions of include/netkat.h. Each wrapper also looks for what the header rules out: values beside a refusal, a changed byte
+//! where none may change, a number written behind the lent work memory. It panics there.
+use crate::model::{Desugared, Res};
+
+#[repr(C)]
+#[derive(Clone, Copy, Debug)]
+struct Answer {
+    number: u32,
+    place: u32,
+    first: u32,
+    second: u32,
+}
+
+extern "C" {
+    fn netkat_check(term: *const u8, term_len: usize) -> Answer;
+    fn netkat_desugar(
+        term: *const u8, term_len: usize, allowance: u32, work: *mut u32, work_len: usize, out: *mut u8, out_len: usize,
+    ) -> Answer;
+    fn netkat_substitute(
+        term: *const u8, term_len: usize, name: u16, replacement: *const u8, replacement_len: usize, out: *mut u8, out_len: usize,
+    ) -> Answer;
+    fn netkat_is_test_fragment(term: *const u8, term_len: usize) -> Answer;
+    fn netkat_num_fields(term: *const u8, term_len: usize) -> Answer;
+    fn netkat_compute_subrange(alias_start: u32, alias_end: u32, sub_start: u32, sub_end: u32) -> Answer;
+}
+
+/// The operation's values, or number and place of the refusal.
+fn values(a: Answer) -> Res<(u32, u32)> {
+    if a.number == 0 {
+        assert!(a.place == 0, "success with a place: {a:?}");
+        Ok((a.first, a.second))
+    } else {
+        assert!(a.first == 0 && a.second == 0, "refusal with values: {a:?}");
+        Err((a.number, a.place))
+    }
+}
+
+fn one_value(a: Answer) -> Res<u32> {
+    let (first, second) = values(a)?;
+    assert!(second == 0, "a second value: {a:?}");
+    Ok(first)
+}
+
+fn flag(a: Answer) -> Res<bool> {
+    let first = one_value(a)?;
+    assert!(first < 2, "not a yes or no: {a:?}");
+    Ok(first == 1)
+}
+
+/// How much of a buffer stands behind the part that is lent.
+const BEHIND: usize = 64;
+const WORK_MARK: u32 = 0xdead_beef;
+
+fn marks(len: usize) -> Vec<u8> {
+    (0..len + BEHIND).map(|i| (i as u8).wrapping_mul(37).wrapping_add(0xa5)).collect()
+}
+
+/// Lends a marked buffer of `len` bytes, then checks that only the front, and only on success, has changed.
+fn with_out<T>(len: usize, call: impl FnOnce(&mut [u8]) -> Res<T>, written: impl Fn(&T) -> u32) -> Res<(T, Vec<u8>)> {
+    let mut out = marks(len);
+    let before = out.clone();
+    match call(&mut out[..len]) {
+        Err(e) => {
+            assert!(out == before, "a refused call wrote to the answer buffer");
+            Err(e)
+        }
+        Ok(v) => {
+            let n = written(&v) as usize;
+            assert!(n <= len && out[n..] == before[n..], "a byte changed behind the answer");
+            out.truncate(n);
+            Ok((v, out))
+        }
+    }
+}
+
+pub fn check(term: &[u8]) -> Res<bool> {
+    flag(unsafe { netkat_check(term.as_ptr(), term.len()) })
+}
+
+/// The core's length and the drawn total.
+pub fn desugar_into(term: &[u8], allowance: u64, work: &mut [u32], out: &mut [u8]) -> Res<(u32, u32)> {
+    values(unsafe {
+        netkat_desugar(term.as_ptr(), term.len(), allowance as u32, work.as_mut_ptr(), work.len(), out.as_mut_ptr(), out.len())
+    })
+}
+
+pub fn desugar(term: &[u8], allowance: u64, work_len: u64, out_len: u64) -> Res<Desugared> {
+    let lent = work_len as usize;
+    let mut work = vec![WORK_MARK; lent + BEHIND];
+    let answer = with_out(out_len as usize, |out| desugar_into(term, allowance, &mut work[..lent], out), |v| v.0);
+    assert!(work[lent..].iter().all(|n| *n == WORK_MARK), "a number changed behind the work memory");
+    answer.map(|((_, drawn), core)| Desugared { drawn: drawn as u64, core })
+}
+
+pub fn substitute(term: &[u8], name: u16, replacement: &[u8], out_len: u64) -> Res<Vec<u8>> {
+    let call = |out: &mut [u8]| {
+        one_value(unsafe {
+            netkat_substitute(
+                term.as_ptr(), term.len(), name, replacement.as_ptr(), replacement.len(), out.as_mut_ptr(), out.len(),
+            )
+        })
+    };
+    with_out(out_len as usize, call, |n| *n).map(|(_, bytes)| bytes)
+}
+
+pub fn fragment(term: &[u8]) -> Res<bool> {
+    flag(unsafe { netkat_is_test_fragment(term.as_ptr(), term.len()) })
+}
+
+pub fn fields(term: &[u8]) -> Res<u32> {
+    one_value(unsafe { netkat_num_fields(term.as_ptr(), term.len()) })
+}
+
+pub fn subrange(a: u32, b: u32, s: u32, e: u32) -> Res<(u32, u32)> {
+    values(unsafe { netkat_compute_subrange(a, b, s, e) })
+}
