@@ -3,12 +3,7 @@
 #   ORACLE_SEEDS   folder with the original's expr.rs and desugar.rs (or src--src--expr.rs.txt and src--src--desugar.rs.txt)
 #   SEED (1), COUNT (300000) random inputs, THREADS (1)
 # Needs cargo and python3; also the Rattle kit (rt), unless target/staticlib/libnetkat.a is there.
-if [ ! -d "${ORACLE_SEEDS:-}" ]; then
-    echo "run.sh: set ORACLE_SEEDS to the folder that holds the original's expr.rs and desugar.rs" >&2
-    exit 2
-fi
-ORACLE_SEEDS=$(cd "$ORACLE_SEEDS" && pwd)
-export ORACLE_SEEDS
+. "$(dirname "$0")/seeds.sh"
 cd "$(dirname "$0")" || exit 2
 SEED=${SEED:-1} COUNT=${COUNT:-300000} THREADS=${THREADS:-1}
 

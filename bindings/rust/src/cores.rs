@@ -1,4 +1,3 @@
-use std::fmt;
 
 use crate::record::{kind, Record};
 use crate::tree::{self, Limits, Tree};
@@ -109,33 +108,31 @@ impl Core {
     }
 }
 
+// The children, borrowed as the node is.
+macro_rules! children {
+    ($node:expr) => {
+        match $node {
+            Core::Union(a, b)
+            | Core::Intersect(a, b)
+            | Core::Xor(a, b)
+            | Core::Difference(a, b)
+            | Core::Sequence(a, b)
+            | Core::LtlUntil(a, b) => [Some(a), Some(b), None],
+            Core::Complement(a) | Core::Star(a) | Core::LtlNext(a) => [Some(a), None, None],
+            _ => [None, None, None],
+        }
+    };
+}
+
 impl Tree for Core {
     const LIMITS: Limits = Limits::CORE;
 
     fn children(&self) -> [Option<&Self>; 3] {
-        match self {
-            Core::Union(a, b)
-            | Core::Intersect(a, b)
-            | Core::Xor(a, b)
-            | Core::Difference(a, b)
-            | Core::Sequence(a, b)
-            | Core::LtlUntil(a, b) => [Some(a), Some(b), None],
-            Core::Complement(a) | Core::Star(a) | Core::LtlNext(a) => [Some(a), None, None],
-            _ => [None, None, None],
-        }
+        children!(self)
     }
 
     fn children_mut(&mut self) -> [Option<&mut Self>; 3] {
-        match self {
-            Core::Union(a, b)
-            | Core::Intersect(a, b)
-            | Core::Xor(a, b)
-            | Core::Difference(a, b)
-            | Core::Sequence(a, b)
-            | Core::LtlUntil(a, b) => [Some(a), Some(b), None],
-            Core::Complement(a) | Core::Star(a) | Core::LtlNext(a) => [Some(a), None, None],
-            _ => [None, None, None],
-        }
+        children!(self)
     }
 
     fn record(&self) -> Record {
@@ -182,28 +179,4 @@ impl Tree for Core {
     }
 }
 
-impl Drop for Core {
-    fn drop(&mut self) {
-        tree::drop_below(self);
-    }
-}
-
-impl Clone for Core {
-    fn clone(&self) -> Self {
-        tree::clone(self)
-    }
-}
-
-impl PartialEq for Core {
-    fn eq(&self, other: &Self) -> bool {
-        tree::equal(self, other)
-    }
-}
-
-impl Eq for Core {}
-
-impl fmt::Debug for Core {
-    fn fmt(&self, f: &mut fmt::Formatter<'_>) -> fmt::Result {
-        tree::debug(self, f)
-    }
-}
+tree::without_recursion!(Core);

@@ -1,4 +1,3 @@
-use std::fmt;
 
 use crate::record::{kind, Record};
 use crate::tree::{self, Limits, Tree};
@@ -392,41 +391,35 @@ impl Expr {
     }
 }
 
+// The children, borrowed as the node is.
+macro_rules! children {
+    ($node:expr) => {
+        match $node {
+            Expr::Union(a, b)
+            | Expr::Intersect(a, b)
+            | Expr::Xor(a, b)
+            | Expr::Difference(a, b)
+            | Expr::Sequence(a, b)
+            | Expr::LtlUntil(a, b)
+            | Expr::Let(_, a, b) => [Some(a), Some(b), None],
+            Expr::Complement(a) | Expr::Star(a) | Expr::LtlNext(a) | Expr::TestNegation(a) | Expr::LetBitRange(_, _, _, a) => {
+                [Some(a), None, None]
+            }
+            Expr::IfThenElse(a, b, c) => [Some(a), Some(b), Some(c)],
+            _ => [None, None, None],
+        }
+    };
+}
+
 impl Tree for Expr {
     const LIMITS: Limits = Limits::TERM;
 
     fn children(&self) -> [Option<&Self>; 3] {
-        match self {
-            Expr::Union(a, b)
-            | Expr::Intersect(a, b)
-            | Expr::Xor(a, b)
-            | Expr::Difference(a, b)
-            | Expr::Sequence(a, b)
-            | Expr::LtlUntil(a, b)
-            | Expr::Let(_, a, b) => [Some(a), Some(b), None],
-            Expr::Complement(a) | Expr::Star(a) | Expr::LtlNext(a) | Expr::TestNegation(a) | Expr::LetBitRange(_, _, _, a) => {
-                [Some(a), None, None]
-            }
-            Expr::IfThenElse(a, b, c) => [Some(a), Some(b), Some(c)],
-            _ => [None, None, None],
-        }
+        children!(self)
     }
 
     fn children_mut(&mut self) -> [Option<&mut Self>; 3] {
-        match self {
-            Expr::Union(a, b)
-            | Expr::Intersect(a, b)
-            | Expr::Xor(a, b)
-            | Expr::Difference(a, b)
-            | Expr::Sequence(a, b)
-            | Expr::LtlUntil(a, b)
-            | Expr::Let(_, a, b) => [Some(a), Some(b), None],
-            Expr::Complement(a) | Expr::Star(a) | Expr::LtlNext(a) | Expr::TestNegation(a) | Expr::LetBitRange(_, _, _, a) => {
-                [Some(a), None, None]
-            }
-            Expr::IfThenElse(a, b, c) => [Some(a), Some(b), Some(c)],
-            _ => [None, None, None],
-        }
+        children!(self)
     }
 
     fn record(&self) -> Record {
@@ -501,28 +494,4 @@ impl Tree for Expr {
     }
 }
 
-impl Drop for Expr {
-    fn drop(&mut self) {
-        tree::drop_below(self);
-    }
-}
-
-impl Clone for Expr {
-    fn clone(&self) -> Self {
-        tree::clone(self)
-    }
-}
-
-impl PartialEq for Expr {
-    fn eq(&self, other: &Self) -> bool {
-        tree::equal(self, other)
-    }
-}
-
-impl Eq for Expr {}
-
-impl fmt::Debug for Expr {
-    fn fmt(&self, f: &mut fmt::Formatter<'_>) -> fmt::Result {
-        tree::debug(self, f)
-    }
-}
+tree::without_recursion!(Expr);

@@ -244,3 +244,36 @@ fn parts(record: Record) -> Vec<String> {
         _ => Vec::new(),
     }
 }
+
+/// Drop, clone, equality and debug of a tree, none of which recurses: it may be as deep as it is large.
+macro_rules! without_recursion {
+    ($tree:ident) => {
+        impl Drop for $tree {
+            fn drop(&mut self) {
+                $crate::tree::drop_below(self);
+            }
+        }
+
+        impl Clone for $tree {
+            fn clone(&self) -> Self {
+                $crate::tree::clone(self)
+            }
+        }
+
+        impl PartialEq for $tree {
+            fn eq(&self, other: &Self) -> bool {
+                $crate::tree::equal(self, other)
+            }
+        }
+
+        impl Eq for $tree {}
+
+        impl std::fmt::Debug for $tree {
+            fn fmt(&self, f: &mut std::fmt::Formatter<'_>) -> std::fmt::Result {
+                $crate::tree::debug(self, f)
+            }
+        }
+    };
+}
+
+pub(crate) use without_recursion;
