@@ -1,4 +1,3 @@
-
 use crate::record::{kind, Record};
 use crate::tree::{self, Limits, Tree};
 use crate::{Exp, Expr, Field, Refusal, Value};
