@@ -18,8 +18,9 @@ use Rattle.desugar.specs.WalkWords.{TermAt, TermsAt, Stack, Came, Walked
 use Rattle.desugar.specs.declared.went.Went.{Went}
 use Rattle.desugar.specs.declared.went.Walked.{Walked}
 use Rattle.desugar.specs.declared.went.Walked.the-variants.{Done, Refused}
-use Rattle.desugar.proofs.Regions.{kept-then, kept-less, length-words}
+use Rattle.desugar.proofs.Regions.{kept-then, kept-less}
 use Rattle.desugar.proofs.Frames.{bound-kept}
+pub use Rattle.desugar.proofs.RecordBytes.{lies-inside}
 
 -- ## Terms one behind the other
 
@@ -72,10 +73,6 @@ abbrev pub ready-first : {s xs : List ℕ} {from levels place last top a : ℕ} 
 ready-first {env = env} e es t k = record { term = e; env = env; text = first-at e es t; stack = k }
 
 -- ## What a walk came to
-
--- a core lies inside the memory
-pub lies-inside : {xs : List ℕ} {at n : ℕ} {c : Core} → Lies xs at n c → at + 3 * n ≤ length xs
-lies-inside {c = c} l = omega (arith, l .holds .fits, l .count, length-words c)
 
 -- the contract of a walk over one term
 abbrev pub Visited : List ℕ → (levels place last top a : ℕ) → (xs xs′ : List ℕ) → Walked → Type 0

@@ -11,7 +11,7 @@ use Rattle.expr.specs.Answers.{Answer, ok, refuse, andThen, mapAnswer, n
 use Rattle.expr.specs.Terms.{Expr, Plain, Unary, Binary, TestNegation, IfThenElse, Let, LetBitRange, Var, Ranged, Direct, Alias, records}
 use Rattle.expr.specs.Records.{Record, readRecord}
 use Rattle.expr.specs.Form.{maxRecords, maxDepth, Node, node0, node1, node2, node3, nodeOf, Parsed, children, nodeAt, parse, wholeTerm, decode}
-use Rattle.expr.specs.Operations.{atomFields, numFields, raised}
+use Rattle.expr.specs.Operations.{atomFields, numFields}
 
 -- a refusal's place is below n
 abbrev pub Placed : {A : Type 0} → ℕ → Answer A → Type 0
@@ -29,14 +29,6 @@ placed-map n f (refuse r at) h = h
 pub placed-need : (n : ℕ) (b : Bool) (r at : ℕ) → at < n → Placed n (need b r at)
 placed-need n true r at h = tt
 placed-need n false r at h = h
-
-pub placed-raised : {A : Type 0} (n : ℕ) (x : Answer A) → Placed n x → Placed n (raised x)
-placed-raised n (ok a) h = tt
-placed-raised n (refuse r at) h = h
-
-pub placed-within : {A : Type 0} (m n : ℕ) (x : Answer A) → m ≤ n → Placed m x → Placed n x
-placed-within m n (ok a) h p = tt
-placed-within m n (refuse r at) h p = omega (arith, h, p)
 
 -- ## Form
 
@@ -84,31 +76,23 @@ decode-placed bs = go (parse maxDepth 0 bs) (low-parse maxDepth 0 bs (omega arit
 
 -- ## Field count
 
-pub fields-placed : (e : Expr) (at : ℕ) → Placed (at + records e) (numFields e at)
-fields-placed (Plain a) at = placed-then (at + 1) (need (ltb (atomFields a) (2 ^ 32)) 25 at) _ (placed-need (at + 1) (ltb (atomFields a) (2 ^ 32)) 25 at (omega arith)) (λ _. tt)
-fields-placed (Unary o e) at = placed-within (at + 1 + records e) (at + (1 + records e)) (numFields e (at + 1)) (omega arith) (fields-placed e (at + 1))
-fields-placed (Binary o a b) at =
-    let n = at + (1 + records a + records b) in
-    placed-then n (numFields a (at + 1)) _ (placed-within (at + 1 + records a) n (numFields a (at + 1)) (omega arith) (fields-placed a (at + 1))) (λ _.
-    placed-then n (numFields b (at + 1 + records a)) _
-    (placed-within (at + 1 + records a + records b) n (numFields b (at + 1 + records a)) (omega arith) (fields-placed b (at + 1 + records a))) (λ _. tt))
-fields-placed (TestNegation e) at = placed-within (at + 1 + records e) (at + (1 + records e)) (numFields e (at + 1)) (omega arith) (fields-placed e (at + 1))
-fields-placed (IfThenElse c t e) at =
-    let n = at + (1 + records c + records t + records e) in
-    placed-then n (numFields c (at + 1)) _ (placed-within (at + 1 + records c) n (numFields c (at + 1)) (omega arith) (fields-placed c (at + 1))) (λ _.
-    placed-then n (numFields t (at + 1 + records c)) _
-    (placed-within (at + 1 + records c + records t) n (numFields t (at + 1 + records c)) (omega arith) (fields-placed t (at + 1 + records c))) (λ _.
-    placed-then n (numFields e (at + 1 + records c + records t)) _
-    (placed-within (at + 1 + records c + records t + records e) n (numFields e (at + 1 + records c + records t)) (omega arith) (fields-placed e (at + 1 + records c + records t)))
-    (λ _. tt)))
-fields-placed (Let x d b) at =
-    let n = at + (1 + records d + records b) in
-    placed-then n (numFields d (at + 1)) _ (placed-within (at + 1 + records d) n (numFields d (at + 1)) (omega arith) (fields-placed d (at + 1))) (λ _.
-    placed-then n (numFields b (at + 1 + records d)) _
-    (placed-within (at + 1 + records d + records b) n (numFields b (at + 1 + records d)) (omega arith) (fields-placed b (at + 1 + records d))) (λ _. tt))
-fields-placed (LetBitRange x s e b) at =
-    placed-map (at + (1 + records b)) (max e) (numFields b (at + 1))
-    (placed-within (at + 1 + records b) (at + (1 + records b)) (numFields b (at + 1)) (omega arith) (fields-placed b (at + 1)))
-fields-placed (Var x) at = tt
-fields-placed (Ranged (Direct s e) u) at = tt
-fields-placed (Ranged (Alias x) u) at = tt
+-- of a term whose records end at or before n
+pub fields-placed : (n : ℕ) (e : Expr) (at : ℕ) → at + records e ≤ n → Placed n (numFields e at)
+fields-placed n (Plain a) at h =
+    placed-then n (need (ltb (atomFields a) (2 ^ 32)) 25 at) _ (placed-need n (ltb (atomFields a) (2 ^ 32)) 25 at (omega arith)) (λ _. tt)
+fields-placed n (Unary o e) at h = fields-placed n e (at + 1) (omega arith)
+fields-placed n (Binary o a b) at h =
+    placed-then n (numFields a (at + 1)) _ (fields-placed n a (at + 1) (omega arith)) (λ _.
+    placed-then n (numFields b (at + 1 + records a)) _ (fields-placed n b (at + 1 + records a) (omega arith)) (λ _. tt))
+fields-placed n (TestNegation e) at h = fields-placed n e (at + 1) (omega arith)
+fields-placed n (IfThenElse c t e) at h =
+    placed-then n (numFields c (at + 1)) _ (fields-placed n c (at + 1) (omega arith)) (λ _.
+    placed-then n (numFields t (at + 1 + records c)) _ (fields-placed n t (at + 1 + records c) (omega arith)) (λ _.
+    placed-then n (numFields e (at + 1 + records c + records t)) _ (fields-placed n e (at + 1 + records c + records t) (omega arith)) (λ _. tt)))
+fields-placed n (Let x d b) at h =
+    placed-then n (numFields d (at + 1)) _ (fields-placed n d (at + 1) (omega arith)) (λ _.
+    placed-then n (numFields b (at + 1 + records d)) _ (fields-placed n b (at + 1 + records d) (omega arith)) (λ _. tt))
+fields-placed n (LetBitRange x s e b) at h = placed-map n (max e) (numFields b (at + 1)) (fields-placed n b (at + 1) (omega arith))
+fields-placed n (Var x) at h = tt
+fields-placed n (Ranged (Direct s e) u) at h = tt
+fields-placed n (Ranged (Alias x) u) at h = tt

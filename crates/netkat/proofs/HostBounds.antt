@@ -14,12 +14,12 @@ use Rattle.expr.specs.Answers.{Answer, ok, refuse, andThen, mapAnswer, need}
 use Rattle.expr.specs.Terms.{Name, Core, Expr, Plain, Unary, Binary, TestNegation, IfThenElse, Let, LetBitRange, Var, Ranged, records, depth, size}
 use Rattle.expr.specs.Form.{maxRecords, maxDepth, decode, encode, encodeCore, Fits, Within}
 use Rattle.expr.specs.Operations.{isTestFragment, fragmentBytes, numFields, fieldsBytes, substitute, raised, intoRoom, substituteBytes}
-use Rattle.expr.proofs.Places.{Placed, placed-then, placed-need, placed-within, decode-placed, fields-placed}
+use Rattle.expr.proofs.Places.{Placed, placed-then, placed-need, decode-placed, fields-placed}
 use Rattle.expr.proofs.TermForm.{IfOk}
 use Rattle.expr.proofs.FormTheorem.{decode-only}
 use Rattle.expr.proofs.Replacing.{long}
 use Rattle.desugar.specs.Bindings.{Env, findRange, lookupAlias, lookupVariable, range, variable}
-use Rattle.desugar.specs.Rules.{boundVariable, knownRange, rangeRule}
+use Rattle.desugar.specs.Rules.{knownRange, rangeRule}
 use Rattle.desugar.specs.Desugar.{desugar, desugarBytes, drawnOf, maxAllowance, workFor}
 use Rattle.desugar.specs.Memory.{Holds, words}
 use Rattle.desugar.specs.Meter.{Meter, drawn, left}
@@ -73,7 +73,7 @@ fragment-narrow bs = narrow-map Any Any isTestFragment (decode bs) (placed-narro
 pub fields-narrow : (bs : List ℕ) → Bytes bs → Narrow Any (fieldsBytes bs)
 fields-narrow bs b =
     narrow-then Within Any (decode bs) _ (narrow-term bs b) (λ e w.
-    placed-narrow Any (numFields e 0) (placed-within (0 + records e) (maxRecords + 1) (numFields e 0) (omega (arith, w .count)) (fields-placed e 0)) (λ _ _. tt))
+    placed-narrow Any (numFields e 0) (fields-placed (maxRecords + 1) e 0 (omega (arith, w .count))) (λ _ _. tt))
 
 -- ## Check
 
@@ -95,11 +95,10 @@ check-placed n env (Let x d b) at h =
     placed-then n (checkWalk env d (at + 1)) _ (check-placed n env d (at + 1) (omega arith)) (λ s.
     check-placed n (variable x s ∷ env) b (at + 1 + records d) (omega arith))
 check-placed n env (LetBitRange x s e b) at h = check-placed n (range x s e ∷ env) b (at + 1) (omega arith)
-check-placed n env (Var x) at h =
-    placed-within (at + 1) n (boundVariable (lookupVariable env x) (lookupAlias env x) at) (omega arith) (variable-placed (lookupVariable env x) (lookupAlias env x) at)
+check-placed n env (Var x) at h = variable-placed n at (omega arith) (lookupVariable env x) (lookupAlias env x)
 check-placed n env (Ranged w u) at h =
-    placed-then n (knownRange (findRange env w) at) _ (placed-within (at + 1) n (knownRange (findRange env w) at) (omega arith) (range-placed (findRange env w) at)) (λ r.
-    placed-then n (rangeRule w u r at) _ (placed-within (at + 1) n (rangeRule w u r at) (omega arith) (rule-placed w u r at)) (λ _. tt))
+    placed-then n (knownRange (findRange env w) at) _ (range-placed n at (omega arith) (findRange env w)) (λ r.
+    placed-then n (rangeRule w u r at) _ (rule-placed n at (omega arith) w u r) (λ _. tt))
 
 pub check-narrow : (bs : List ℕ) → Bytes bs → Narrow Any (checkBytes bs)
 check-narrow bs b =
@@ -194,7 +193,7 @@ core-held e n = go (desugar-costs [] e 0)
 core-narrow : (e : Expr) (n : ℕ) → Within e → Narrow (Held n) (desugar [] e 0 (left n))
 core-narrow e n w =
     placed-narrow (Held n) (desugar [] e 0 (left n))
-    (placed-within (0 + records e) (maxRecords + 1) (desugar [] e 0 (left n)) (omega (arith, w .count)) (desugar-placed [] e 0 (left n)))
+    (desugar-placed (maxRecords + 1) [] e 0 (omega (arith, w .count)) (left n))
     (λ r h. subst (IfOk (Held n)) h (core-held e n))
 
 -- both values have 32 bits
