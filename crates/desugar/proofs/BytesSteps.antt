@@ -1,12 +1,13 @@
 -- The steps of `desugar` on bytes: the allowance and its work memory, the form, the walk, and the core's bytes.
 use mathlib.Core.Path.{_≡_, refl, sym, ap, subst, _∙_}
-use mathlib.Core.Bool.{true, false}
-use mathlib.Core.List.{List, [], _++_, append-nil}
+use mathlib.Core.Bool.{Bool, true, false, not}
+use mathlib.Core.List.{List, [], append-nil}
 use Prim.Native.Nat.{ℕ, _+_, _-_, _*_, _≤_, _<_}
 use native.Mathlib.Omega.{arith}
 use lib.Dec.{leb}
-use lib.ListN.{length, drop}
+use lib.ListN.{length}
 use borrow.Author.Tests.{le-leb, lt-leb}
+use Rattle.literals.proofs.Logic.{leb-is}
 use Rattle.expr.specs.Answers.{Answer, ok, refuse, andThen, mapAnswer, bufferAfter}
 use Rattle.expr.specs.Terms.{Core, Expr, records}
 use Rattle.expr.specs.Form.{maxDepth, decode, encode, encodeCore, Within}
@@ -16,7 +17,7 @@ use Rattle.expr.proofs.Slices.{Sliced, bytes-each}
 use Rattle.desugar.specs.Meter.{left}
 use Rattle.desugar.specs.Desugar.{desugar, maxAllowance, workFor, drawnOf, desugarBytes}
 use Rattle.desugar.specs.Memory.{Lies}
-use Rattle.desugar.specs.CoreBytes.{Writable}
+use Rattle.desugar.specs.CoreBytes.{Writable, CoreWritten}
 use Rattle.desugar.specs.WalkWords.{Ready, Came, WalkedAs}
 use Rattle.desugar.specs.DesugarBytes.{desugaredAnswer, DesugaredAs, Allowance, Granted}
 use Rattle.desugar.specs.declared.bytes.Desugared.{Desugared}
@@ -66,6 +67,10 @@ module _ {n : ℕ} (h : Allowance n) where
   not-formed {bs} {work} {r} {at} out room h =
       let enough : leb (workFor n) work ≡ true = le-leb (workFor n) work room in
       answers (refuse r at) (rw (within, below, enough, h) refl) refl refl
+
+twice : (b : Bool) → b ≡ not (not b)
+twice true = refl
+twice false = refl
 
 -- ## The walk
 
@@ -144,25 +149,22 @@ module _ {bs : List ℕ} {n : ℕ} {xs : List ℕ} (g : Granted bs n xs) (bytes 
     pub left-of : w .left ≤ n
     left-of = omega (arith, came .drawn)
 
-    module _ {m : ℕ} (out : List ℕ) (long : (c : Core) → Lies xs′ (w .at) (w .count) c → m ≡ length (encodeCore c)) where
-      m-is : m ≡ length (encodeCore c)
-      m-is = long c (came .lies)
-
-      pub no-room : length out < m → DesugaredAs bs n (length xs) out out (Refused 26 0)
+    module _ {b : Bool} (out : List ℕ) (told : (c : Core) → Lies xs′ (w .at) (w .count) c → b ≡ leb (length (encodeCore c)) (length out)) where
+      pub no-room : not b ≡ true → DesugaredAs bs n (length xs) out out (Refused 26 0)
       no-room h =
-          let over : leb (length (encodeCore c)) (length out) ≡ false = lt-leb (length (encodeCore c)) (length out) (omega (arith, m-is)) in
+          let over : leb (length (encodeCore c)) (length out) ≡ false = sym (told c (came .lies)) ∙ twice b ∙ ap not h in
           answers (refuse 26 0) (granted (length out) (rw (came .is, over) refl)) refl refl
 
-      module _ (room : m ≤ length out) where
-        fits : length (encodeCore c) ≤ length out
-        fits = omega (arith, m-is)
+      module _ (h : not b ≡ false) where
+        enough : leb (length (encodeCore c)) (length out) ≡ true
+        enough = sym (told c (came .lies)) ∙ twice b ∙ ap not h
 
         pub writable : Writable xs′ (w .at) (w .count) out
-        writable = record { core = c; lies = came .lies; room = fits }
+        writable = record { core = c; lies = came .lies; room = leb-is (length (encodeCore c)) (length out) .0 enough }
 
-        pub written : (out′ : List ℕ) → ((c : Core) → Lies xs′ (w .at) (w .count) c → out′ ≡ encodeCore c ++ drop (length (encodeCore c)) out)
+        pub written : (out′ : List ℕ) {m : ℕ} → ((c : Core) → Lies xs′ (w .at) (w .count) c → CoreWritten c out out′ m)
             → DesugaredAs bs n (length xs) out out′ (Done m (n - w .left))
         written out′ wrote =
-            let enough : leb (length (encodeCore c)) (length out) ≡ true = le-leb (length (encodeCore c)) (length out) fits in
-            answers (ok (encodeCore c, n - w .left)) (granted (length out) (rw (came .is, enough) refl)) (ap (λ k. ok (k, n - w .left)) m-is)
-            (wrote c (came .lies))
+            let core = wrote c (came .lies) in
+            answers (ok (encodeCore c, n - w .left)) (granted (length out) (rw (came .is, enough) refl)) (ap (λ k. ok (k, n - w .left)) (core .long))
+            (core .bytes)

@@ -2,21 +2,22 @@
 use mathlib.Core.Path.{_≡_, refl, sym, ap, subst, _∙_}
 use mathlib.Core.Bool.{Bool, true, false, not, cond}
 use mathlib.Core.List.{List, [], _∷_, _++_, append-assoc, append-nil}
-use Prim.Native.Nat.{ℕ, zero, suc, _+_, _-_, _*_, _≤_, _<_}
+use Prim.Native.Nat.{ℕ, zero, suc, _+_, _-_, _*_, _%_, _≤_, _<_}
 use native.Mathlib.Nat.{add-zero, add-suc, zero-add}
+use native.Mathlib.Decide.{decLt, ℕ-discrete}
 use native.Mathlib.Omega.{arith}
 use native.Mathlib.Numerals.{add-one, add-two, add-three}
 use lib.ListN.{length, getD, drop, set, length-append}
-use lib.Seq.{sets, sets-eq, length-sets}
+use lib.Seq.{sets, sets-eq, set-getD, length-sets}
 use borrow.Author.Tests.{eq-eqb, ne-eqb}
-use Rattle.literals.specs.Bits.{bit, bytesOf}
+use Rattle.literals.specs.Bits.{bit, bytesOf, valueOf}
 use Rattle.literals.proofs.Bits.{bit-small}
 use Rattle.expr.specs.Terms.{Atom, Zero, One, Top, Dup, End, Assign, Test, Core, leaf, one, two, op1Kind, op2Kind, atomKind, size}
 use Rattle.expr.specs.Records.{mapOf, stands, writeNumber, writeRecord}
 use Rattle.expr.specs.Form.{atomRecord, encodeCore}
 use Rattle.desugar.specs.Memory.{Holds, Lies, words, atomField, atomValue}
-use Rattle.desugar.specs.CoreBytes.{coreRecord, recordBytes, recordsBytes, Put}
-use Rattle.desugar.proofs.Regions.{head, tail, left, right, moved, sets-append, length-words}
+use Rattle.desugar.specs.CoreBytes.{coreRecord, Bare, recordBytes, recordsBytes, Put}
+use Rattle.desugar.proofs.Regions.{same-at, head, tail, left, right, moved, sets-append, length-words}
 
 byte-length : (b : Bool) (v : ℕ) → length (cond b (bytesOf 1 v) []) ≡ bit b
 byte-length true v = refl
@@ -111,6 +112,53 @@ core-bytes (two o a b) xs at h =
 pub lies-bytes : {xs : List ℕ} {at n : ℕ} {c : Core} → Lies xs at n c → recordsBytes xs at n ≡ encodeCore c
 lies-bytes {xs} {at} {n} {c} l = ap (recordsBytes xs at) (l .count) ∙ core-bytes c xs at (l .holds)
 
+-- ## A core's operators have neither field nor value
+
+abbrev BareAt : List ℕ → ℕ → Type 0
+BareAt xs i = Bare (getD xs i 0) (getD xs (i + 1) 0) (getD xs (i + 2) 0)
+
+bare-moved : (xs : List ℕ) {i j : ℕ} → i ≡ j → BareAt xs i → BareAt xs j
+bare-moved xs e h = subst (BareAt xs) e h
+
+atom-kind : (a : Atom) → atomKind a ≤ 6
+atom-kind Zero = omega arith
+atom-kind One = omega arith
+atom-kind Top = omega arith
+atom-kind Dup = omega arith
+atom-kind End = omega arith
+atom-kind (Assign f v) = omega arith
+atom-kind (Test f v) = omega arith
+
+-- an operator's own record
+own-bare : {xs : List ℕ} {at k : ℕ} {ys : List ℕ} → Holds xs at (k ∷ 0 ∷ 0 ∷ ys) → BareAt xs at
+own-bare {xs} {at} h _ = (head (tail h), same-at xs (omega arith) ∙ head (tail (tail h)))
+
+-- the records of two cores, one behind the other
+both-bare : (xs : List ℕ) (at n m : ℕ) → ((j : ℕ) → j < n → BareAt xs (at + 3 * j)) → ((j : ℕ) → j < m → BareAt xs (at + 3 * n + 3 * j))
+    → (j : ℕ) → j < n + m → BareAt xs (at + 3 * j)
+both-bare xs at n m first second j l = pick (decLt j n)
+  where
+    pick : Dec (j < n) → BareAt xs (at + 3 * j)
+    pick (yes d) = first j d
+    pick (no d) = bare-moved xs (omega (arith, d)) (second (j - n) (omega (arith, d, l)))
+
+-- each record of a core
+pub core-bare : (c : Core) (xs : List ℕ) (at : ℕ) → Holds xs at (words c) → (j : ℕ) → j < size c → BareAt xs (at + 3 * j)
+core-bare (leaf a) xs at h zero l = bare-moved xs {i = at} (omega arith) (λ g. absurd (omega (arith, g, head h, atom-kind a)))
+core-bare (leaf a) xs at h (suc j) l = absurd (omega arith)
+core-bare (one o c) xs at h zero l = bare-moved xs (omega arith) (own-bare h)
+core-bare (one o c) xs at h (suc j) l =
+    bare-moved xs (omega arith) (core-bare c xs (at + 3) (right (op1Kind o ∷ 0 ∷ 0 ∷ []) (words c) h) j (omega arith))
+core-bare (two o a b) xs at h zero l = bare-moved xs (omega arith) (own-bare h)
+core-bare (two o a b) xs at h (suc j) l =
+    let behind = right (op2Kind o ∷ 0 ∷ 0 ∷ []) (words a ++ words b) h in
+    let second = moved (right (words a) (words b) behind) (ap (λ n. at + 3 + n) (length-words a)) refl in
+    bare-moved xs {i = at + 3 + 3 * j} (omega arith)
+    (both-bare xs (at + 3) (size a) (size b) (core-bare a xs (at + 3) (left (words a) (words b) behind)) (core-bare b xs (at + 3 + 3 * size a) second) j (omega arith))
+
+pub lies-bare : {xs : List ℕ} {at n : ℕ} {c : Core} → Lies xs at n c → (j : ℕ) → j < n → BareAt xs (at + 3 * j)
+lies-bare {xs} {at} {n} {c} l j h = core-bare c xs at (l .holds) j (omega (arith, l .count))
+
 -- a run of stores at the front
 pub sets-front : (vs l : List ℕ) → length vs ≤ length l → sets l 0 vs ≡ vs ++ drop (length vs) l
 sets-front vs l h = sets-eq vs l 0 (omega arith) ∙ ap (λ n. vs ++ drop n l) (zero-add (length vs))
@@ -123,6 +171,63 @@ number-none n v e = ap (λ b. cond (not b) (bytesOf n v) []) (eq-eqb v 0 e)
 pub number-some : (n v : ℕ) → (v ≡ 0 → ⊥) → writeNumber n v ≡ bytesOf n v
 number-some n v e = ap (λ b. cond (not b) (bytesOf n v) []) (ne-eqb v 0 e)
 
+-- a number without a byte
+pub number-empty : (v : ℕ) → length (writeNumber 1 v) ≡ 0 → writeNumber 1 v ≡ []
+number-empty v e = pick (ℕ-discrete v 0)
+  where
+    pick : Dec (v ≡ 0) → writeNumber 1 v ≡ []
+    pick (yes d) = number-none 1 v d
+    pick (no d) = absurd (omega (arith, e, ap length (number-some 1 v d)))
+
+-- a byte that is written where its number stands, and else written back
+pub value-put : (l : List ℕ) (to v : ℕ) {b : ℕ} → b ≡ cond (stands v) (v % 256) (getD l to 0) → Put (writeNumber 1 v) l to (set l to b) (to + bit (stands v))
+value-put l to v {b} e = pick (ℕ-discrete v 0)
+  where
+    pick : Dec (v ≡ 0) → Put (writeNumber 1 v) l to (set l to b) (to + bit (stands v))
+    pick (yes d) =
+        let no : stands v ≡ false = ap not (eq-eqb v 0 d) in
+        record {
+          written = ap (set l to) (e ∙ ap (λ s. cond s (v % 256) (getD l to 0)) no) ∙ set-getD l to 0 ∙ ap (sets l to) (sym (number-none 1 v d));
+          next = omega (arith, ap bit no, ap length (number-none 1 v d));
+        }
+    pick (no d) =
+        let some : stands v ≡ true = ap not (ne-eqb v 0 d) in
+        record {
+          written = ap (set l to) (e ∙ ap (λ s. cond s (v % 256) (getD l to 0)) some) ∙ ap (sets l to) (sym (number-some 1 v d));
+          next = omega (arith, ap bit some, ap length (number-some 1 v d));
+        }
+
+-- a record that has a kind
+module _ (k f v : ℕ) (h : 0 < k) where
+  kind-some : writeNumber 1 k ≡ (k % 256) ∷ []
+  kind-some = number-some 1 k (λ e. omega (arith, e))
+
+  pub kind-is : writeRecord (coreRecord k f v) ≡ (mapOf (coreRecord k f v) ∷ (k % 256) ∷ []) ++ writeNumber 4 f ++ writeNumber 1 v
+  kind-is = record-is k f v ∙ (λ i. (mapOf (coreRecord k f v) ∷ kind-some i) ++ writeNumber 4 f ++ writeNumber 1 v)
+
+  pub kind-length : length (writeRecord (coreRecord k f v)) ≡ 2 + length (writeNumber 4 f) + length (writeNumber 1 v)
+  kind-length = omega (arith, parts-length k f v, ap length kind-some)
+
+  -- and no more
+  pub kind-only : f ≡ 0 → v ≡ 0 → writeRecord (coreRecord k f v) ≡ 1 ∷ (k % 256) ∷ []
+  kind-only f-is v-is =
+      kind-is
+      ∙ (λ i. (valueOf (ap not (ne-eqb k 0 (λ e. omega (arith, e))) i ∷ false ∷ stands (f-is i) ∷ false ∷ false ∷ stands (v-is i) ∷ false ∷ false ∷ []) ∷ (k % 256) ∷ []) ++ number-none 4 f f-is i ++ number-none 1 v v-is i)
+
+-- the map of a record with a kind and a field
+flagged : (b : Bool) → 5 + 32 * bit b ≡ valueOf (true ∷ false ∷ true ∷ false ∷ false ∷ b ∷ false ∷ false ∷ [])
+flagged true = refl
+flagged false = refl
+
+pub atom-map : (k f v : ℕ) → 0 < k → 0 < f → 5 + 32 * bit (stands v) ≡ mapOf (coreRecord k f v)
+atom-map k f v hk hf =
+    flagged (stands v)
+    ∙ (λ i. valueOf (ap not (sym (ne-eqb k 0 (λ e. omega (arith, e)))) i ∷ false ∷ ap not (sym (ne-eqb f 0 (λ e. omega (arith, e)))) i ∷ false ∷ false ∷ stands v ∷ false ∷ false ∷ []))
+
+-- two bytes, one behind the other
+pub pair : (l : List ℕ) (i a b : ℕ) → Put (a ∷ b ∷ []) l i (set (set l i a) (i + 1) b) (i + 2)
+pair l i a b = record { written = rw (add-one); next = refl }
+
 -- four bytes, one behind the other
 pub four : (l : List ℕ) (i a b c d : ℕ) → set (set (set (set l i a) (i + 1) b) (i + 2) c) (i + 3) d ≡ sets l i (a ∷ b ∷ c ∷ d ∷ [])
 four l i a b c d = rw (add-one, add-two, add-three)
@@ -130,6 +235,10 @@ four l i a b c d = rw (add-one, add-two, add-three)
 -- the same bytes
 pub put-as : {us vs l l′ : List ℕ} {i r : ℕ} → us ≡ vs → Put us l i l′ r → Put vs l i l′ r
 put-as {us} {vs} {l} {l′} {i} {r} e p = subst (λ (bs : List ℕ). Put bs l i l′ r) e p
+
+-- the same index behind them
+pub put-next : {us l l′ : List ℕ} {i r s : ℕ} → r ≡ s → Put us l i l′ r → Put us l i l′ s
+put-next {us} {l} {l′} {i} {r} {s} e p = record { written = p .written; next = sym e ∙ p .next }
 
 -- bytes behind bytes
 pub put-then : {us vs l l′ l″ : List ℕ} {i j r : ℕ} → Put us l i l′ j → Put vs l′ j l″ r → Put (us ++ vs) l i l″ r

@@ -1,13 +1,17 @@
 -- The bytes of a core that lies in work memory: the words of the contracts of src/core_bytes.rt.
 use mathlib.Core.{Path._≡_, List.List, List.[], List._++_}
 use Prim.Native.Nat.{ℕ, zero, suc, _+_, _*_, _≤_}
-use lib.{ListN.length, ListN.getD, Seq.sets}
+use lib.{ListN.length, ListN.getD, ListN.drop, Seq.sets}
 use Rattle.expr.specs.{Terms.Core, Records.Record, Records.writeRecord, Form.encodeCore}
 use Rattle.desugar.specs.{Memory.Lies}
 
 -- a core's record: its kind, field and value
 abbrev pub coreRecord : ℕ → ℕ → ℕ → Record
 coreRecord k f v = record { kind = k; name = 0; start = f; end = 0; pattern = 0; number = v; litA = []; litB = [] }
+
+-- a record with an operator's kind has neither field nor value
+abbrev pub Bare : ℕ → ℕ → ℕ → Type 0
+Bare k f v = 7 ≤ k → (f ≡ 0) × (v ≡ 0)
 
 -- the bytes of the record at index i
 abbrev pub recordBytes : List ℕ → ℕ → List ℕ
@@ -28,3 +32,8 @@ pub record Writable (xs : List ℕ) (at n : ℕ) (out : List ℕ) : Type 0 where
   pub core : Core
   pub lies : Lies xs at n core
   pub room : length (encodeCore core) ≤ length out
+
+-- a core's bytes stand in front of the buffer, the rest of it is kept, and r is their number
+pub record CoreWritten (c : Core) (out out′ : List ℕ) (r : ℕ) : Type 0 where
+  pub bytes : out′ ≡ encodeCore c ++ drop (length (encodeCore c)) out
+  pub long : r ≡ length (encodeCore c)

@@ -34,11 +34,11 @@ fn write_desugared(term: &[u8], allowance: usize, work: &mut [u32], out: &mut [u
         Walked::Refused(number, at) => return Desugared::Refused(number, at),
         Walked::Done(went) => went,
     };
-    let length = crate::core_bytes::core_length(work, went.at, went.count);
-    if out.len() < length {
+    let room = out.len();
+    if !crate::core_bytes::fits(work, went.at, went.count, room) {
         return Desugared::Refused(26, 0);
     }
-    crate::core_bytes::write_core(work, went.at, went.count, out);
+    let length = crate::core_bytes::write_core(work, went.at, went.count, out);
     Desugared::Done(length, allowance - went.left)
 }
 

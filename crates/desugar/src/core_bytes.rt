@@ -1,14 +1,18 @@
 // The bytes of a core that lies in work memory: how many, and the bytes themselves.
 ghost use mathlib.Core.Path.{_≡_};
-ghost use mathlib.Core.List.{_++_};
-ghost use Prim.Native.Nat.{_+_, _*_, _≤_};
-ghost use lib.ListN.{length, drop};
+ghost use mathlib.Core.Bool.{cond};
+ghost use Prim.Native.Nat.{_+_, _*_, _%_, _≤_, _<_};
+ghost use lib.Dec.{leb};
+ghost use lib.ListN.{length};
 ghost use Rattle.literals.specs.Bits.{bit};
 ghost use Rattle.expr.specs.Terms.{Core};
 ghost use Rattle.expr.specs.Records.{mapOf, stands, writeNumber, writeRecord};
 ghost use Rattle.expr.specs.Form.{encodeCore};
 ghost use Rattle.desugar.specs.Memory.{Lies};
-ghost use Rattle.desugar.specs.CoreBytes.{coreRecord, Put, Writable};
+ghost use Rattle.desugar.specs.CoreBytes.{coreRecord, Bare, Put, Writable, CoreWritten};
+
+// The most bytes of a record.
+const MAX_RECORD: usize = 7;
 
 // 1 where a number is not zero, and so is written.
 fn standing(v: u32) -> u8
@@ -78,21 +82,78 @@ fn write_field(out: &mut [u8], to: usize, v: u32) -> usize
     to + 4
 }
 
-// A record's bytes; the index behind them.
-fn write_record(out: &mut [u8], to: usize, kind: u32, field: u32, value: u32) -> usize
+// A number's byte where it stands, and else the one that is held.
+fn chosen(held: u8, v: u32) -> u8
+    ensures { λ r. ⌜ r ≡ cond (stands v) (v % 256) held ⌝ }
+{
+    if v == 0 {
+        return held;
+    }
+    (v % 256) as u8
+}
+
+// The same as write_byte, without a branch on the number: a test's value is 0 as often as not, and no processor foresees which.
+fn write_value(out: &mut [u8], to: usize, v: u32) -> usize
+    requires { ⌜ to + length (writeNumber 1 v) ≤ length (now out) ⌝ }
+    ensures { λ r. ⌜ Put (writeNumber 1 v) (now (out .entry)) to (now (out .exit)) r ⌝ }
+{
+    if out.len() <= to {
+        return to;
+    }
+    let held = out[to];
+    out[to] = chosen(held, v);
+    to + standing(v) as usize
+}
+
+// The bytes of a record that has a kind and a field; the index behind them.
+fn write_atom(out: &mut [u8], to: usize, kind: u32, field: u32, value: u32) -> usize
     requires { ⌜ to + length (writeRecord (coreRecord kind field value)) ≤ length (now out) ⌝ }
+    requires { ⌜ (0 < kind) × (0 < field) ⌝ }
     ensures { λ r. ⌜ Put (writeRecord (coreRecord kind field value)) (now (out .entry)) to (now (out .exit)) r ⌝ }
 {
+    out[to] = 5 + 32 * standing(value);
+    out[to + 1] = (kind % 256) as u8;
+    let end = write_field(&mut *out, to + 2, field);
+    write_value(out, end, value)
+}
+
+// A record's bytes; the index behind them. Operators and atoms on a field, which are nearly all, go their own ways.
+fn write_record(out: &mut [u8], to: usize, kind: u32, field: u32, value: u32) -> usize
+    requires { ⌜ to + length (writeRecord (coreRecord kind field value)) ≤ length (now out) ⌝ }
+    requires { ⌜ Bare kind field value ⌝ }
+    ensures { λ r. ⌜ Put (writeRecord (coreRecord kind field value)) (now (out .entry)) to (now (out .exit)) r ⌝ }
+{
+    if 7 <= kind {
+        out[to] = 1;
+        out[to + 1] = (kind % 256) as u8;
+        return to + 2;
+    }
+    if 0 < kind {
+        if 0 < field {
+            return write_atom(out, to, kind, field, value);
+        }
+    }
     out[to] = map(kind, field, value);
     let a = write_byte(&mut *out, to + 1, kind);
     let b = write_field(&mut *out, a, field);
     write_byte(out, b, value)
 }
 
-// The bytes of the core of n records at `at`, to the front of the buffer.
-pub(crate) fn write_core(work: &[u32], at: usize, n: usize, out: &mut [u8])
+// Whether the bytes of the core of n records at `at` fit a room. They need not be counted where there is room for the longest records.
+pub(crate) fn fits(work: &[u32], at: usize, n: usize, room: usize) -> bool
+    requires { ⌜ at + 3 * n ≤ length (now work) ⌝ }
+    ensures { λ r. ⌜ ((c : Core) → Lies (now (work .entry)) at n c → r ≡ leb (length (encodeCore c)) room) ⌝ }
+{
+    if MAX_RECORD * n <= room {
+        return true;
+    }
+    core_length(work, at, n) <= room
+}
+
+// The bytes of the core of n records at `at`, to the front of the buffer; how many they are.
+pub(crate) fn write_core(work: &[u32], at: usize, n: usize, out: &mut [u8]) -> usize
     requires { ⌜ Writable (now work) at n (now out) ⌝ }
-    ensures { λ _. ⌜ ((c : Core) → Lies (now (work .entry)) at n c → now (out .exit) ≡ encodeCore c ++ drop (length (encodeCore c)) (now (out .entry))) ⌝ }
+    ensures { λ r. ⌜ ((c : Core) → Lies (now (work .entry)) at n c → CoreWritten c (now (out .entry)) (now (out .exit)) r) ⌝ }
 {
     let mut to = 0;
     let mut j = 0;
@@ -101,4 +162,5 @@ pub(crate) fn write_core(work: &[u32], at: usize, n: usize, out: &mut [u8])
         to = write_record(&mut *out, to, work[here], work[here + 1], work[here + 2]);
         j += 1;
     }
+    to
 }

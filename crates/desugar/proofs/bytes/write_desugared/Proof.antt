@@ -10,12 +10,12 @@ use Rattle.desugar.proofs.bytes.write_desugared.Tie as tie
 use Rattle.desugar.proofs.bytes.write_desugared.Reads as reads
 use Rattle.desugar.proofs.bytes.write_desugared.Lts as lts
 use Rattle.desugar.proofs.bindings.Bindings.none.Reads as none-reads
-use Rattle.desugar.proofs.core_bytes.core_length.Reads as core-length-reads
+use Rattle.desugar.proofs.core_bytes.fits.Reads as fits-reads
 use Rattle.desugar.proofs.core_bytes.write_core.Reads as write-core-reads
 use Rattle.desugar.proofs.walk.desugar_with_env.Reads as desugar-with-env-reads
 
 abbrev callees : lts.Claims
-callees = (none-reads.Asked, none-reads.Learnt, desugar-with-env-reads.Asked, desugar-with-env-reads.Learnt, core-length-reads.Asked, core-length-reads.Learnt, write-core-reads.Asked, write-core-reads.Learnt)
+callees = (none-reads.Asked, none-reads.Learnt, desugar-with-env-reads.Asked, desugar-with-env-reads.Learnt, fits-reads.Asked, fits-reads.Learnt, write-core-reads.Asked, write-core-reads.Learnt)
 
 -- the term's bytes are known
 abbrev Entry : Type 0
@@ -60,8 +60,8 @@ returns c =
 enum-known-went : tie.Need-enum-known-went
 enum-known-went c = search needs
 
-core-length-requires : tie.Need-core-length-requires
-core-length-requires c κs =
+fits-requires : tie.Need-fits-requires
+fits-requires c κs =
     let k = c .before in
     core-inside (start k .pre) (bytes (entry k)) (came k)
 
@@ -71,15 +71,15 @@ same-length-2 c = search needs
 returns-2 : tie.Need-returns-2
 returns-2 c =
     let k = c .before .before .before in
-    no-room (start k .pre) (bytes (entry k)) (came k) (start k .args .out .now) (c .before .core-length .ensures) (c .if1 .taken)
+    no-room (start k .pre) (bytes (entry k)) (came k) (start k .args .out .now) (c .before .fits2 .ensures) (c .if1 .taken)
 
 write-core-requires : tie.Need-write-core-requires
 write-core-requires c κs =
     let k = c .before .before .before .before .before in
-    writable (start k .pre) (bytes (entry k)) (came k) (start k .args .out .now) (c .before .before .before .core-length .ensures) (c .before .before .if1 .left)
+    writable (start k .pre) (bytes (entry k)) (came k) (start k .args .out .now) (c .before .before .before .fits2 .ensures) (c .before .before .if1 .left)
 
-sub-t17 : tie.Need-sub-t17
-sub-t17 c =
+sub-t24 : tie.Need-sub-t24
+sub-t24 c =
     let k = c .before .before .before .before .before .before .before .before .before in
     left-of (start k .pre) (bytes (entry k)) (came k)
 
@@ -92,7 +92,7 @@ same-length-4 c = search needs
 returns-3 : tie.Need-returns-3
 returns-3 c =
     let k = c .before .before .before .before .before .before .before .before .before in
-    written (start k .pre) (bytes (entry k)) (came k) (start k .args .out .now) (c .before .before .before .before .before .before .before .core-length .ensures) (c .before .before .before .before .before .before .if1 .left) (c .before .before .before .write-core .last .1 .1 .1 .0) (c .before .before .before .write-core .ensures)
+    written (start k .pre) (bytes (entry k)) (came k) (start k .args .out .now) (c .before .before .before .before .before .before .before .fits2 .ensures) (c .before .before .before .before .before .before .if1 .left) (c .before .before .before .write-core .last .1 .1 .1 .0) (c .before .before .before .write-core .ensures)
 
 pub write-desugared-spec : {M : Type 1} → statement M
 write-desugared-spec =
@@ -104,11 +104,11 @@ write-desugared-spec =
     same-length
     returns
     enum-known-went
-    core-length-requires
+    fits-requires
     same-length-2
     returns-2
     write-core-requires
-    sub-t17
+    sub-t24
     same-length-3
     same-length-4
     returns-3)
