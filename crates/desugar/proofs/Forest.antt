@@ -123,6 +123,13 @@ over-at c h j l = none-left (forestAt j (c ∷ [])) (omega (arith, size-at j (c 
     none-left [] e = refl
     none-left (f ∷ fs) e = absurd (omega (arith, size-pos f))
 
+-- a property of forests that each record's kind is asked for: after a kind that has it the rest decides, and any other kind decides alone
+pub kind-at : (kinds : ℕ → Bool) (all : List Core → Bool) → ((c : Core) (cs : List Core) → all (c ∷ cs) ≡ (kinds (coreKind c) && all (operands c ++ cs)))
+    → {xs : List ℕ} {i n : ℕ} (c : Core) → Lies xs i n c → (j : ℕ) → j < n → {b : Bool} → kinds (getD xs (i + 3 * j) 0) ≡ b → all (forestAt j (c ∷ [])) ≡ (b && all (forestAt (suc j) (c ∷ [])))
+kind-at kinds all opens c h j l e =
+    let a : At _ _ j c = at c h j l in
+    rw (a .is) (opens (a .core) (a .others) ∙ ap (λ (b : Bool). b && all (operands (a .core) ++ a .others)) (ap kinds (sym (a .spot .kind)) ∙ e))
+
 -- ## The test fragment
 
 test-op1 : (o : Op1) → testKind (op1Kind o) ≡ false
@@ -134,17 +141,6 @@ pub test-open : (c : Core) (cs : List Core) → allTest (c ∷ cs) ≡ (testKind
 test-open (leaf p) cs = refl
 test-open (one o a) cs = rw test-op1
 test-open (two o a b) cs = rw (and-assoc, and-assoc)
-
--- after a record of a test's kind the rest decides, and any other record decides alone
-pub test-on : {xs : List ℕ} {i n : ℕ} (c : Core) → Lies xs i n c → (j : ℕ) → j < n → testKind (getD xs (i + 3 * j) 0) ≡ true → allTest (forestAt j (c ∷ [])) ≡ allTest (forestAt (suc j) (c ∷ []))
-test-on c h j l e =
-    let a : At _ _ j c = at c h j l in
-    rw (a .is) (test-open (a .core) (a .others) ∙ ap (λ (b : Bool). b && allTest (operands (a .core) ++ a .others)) (ap testKind (sym (a .spot .kind)) ∙ e))
-
-pub test-off : {xs : List ℕ} {i n : ℕ} (c : Core) → Lies xs i n c → (j : ℕ) → j < n → testKind (getD xs (i + 3 * j) 0) ≡ false → allTest (forestAt j (c ∷ [])) ≡ false
-test-off c h j l e =
-    let a : At _ _ j c = at c h j l in
-    rw (a .is) (test-open (a .core) (a .others) ∙ ap (λ (b : Bool). b && allTest (operands (a .core) ++ a .others)) (ap testKind (sym (a .spot .kind)) ∙ e))
 
 -- ## Every core of a test's forest is a test
 

@@ -30,6 +30,7 @@ pub mod Turns
 pub mod TurnSteps
 pub mod PassEnds
 pub mod Outcomes
+pub mod PlainNegation
 pub mod Closing
 pub mod RecordBytes
 pub mod WalkLaws

@@ -51,7 +51,7 @@ leaf-value End = omega arith
 leaf-value (Assign f v) = bit-small v
 leaf-value (Test f v) = bit-small v
 
-value-small : (c : Core) → coreValue c ≤ 1
+pub value-small : (c : Core) → coreValue c ≤ 1
 value-small (leaf p) = leaf-value p
 value-small (one o a) = omega arith
 value-small (two o a b) = omega arith

@@ -10,6 +10,7 @@ pub mod Memory
 pub mod LeafWords
 pub mod NegationOutcome
 pub mod NegationRun
+pub mod PlainNegation
 pub mod CoreBytes
 pub mod BindingWords
 pub mod WalkWords

@@ -1,11 +1,14 @@
-// Test negation of a core that lies in work memory: is it a test, two passes over it, and the result in its place.
+// Test negation of a core that lies in work memory: record by record where it has no Xor and no Difference; else is it a test, two passes
+// over it, and the result in its place.
 mod measured;
 mod negated;
+mod plain;
 mod tested;
 mod written;
 
 pub use tested::is_test;
-ghost use Prim.Native.Nat.{_≤_};
+ghost use mathlib.Core.Logic.{_⊎_};
+ghost use Prim.Native.Nat.{_+_, _*_, _≤_};
 ghost use lib.ListN.{length};
 ghost use Rattle.expr.specs.Terms.{Core};
 ghost use Rattle.desugar.specs.Memory.{Kept, Lies};
@@ -18,8 +21,8 @@ pub enum Outcome {
     NotTest,
 }
 
-// The negation of the core of n records at `at`, written to `to`, which may be its own place, if it is a test and the result has at most
-// `limit` records. The regions from `notes` on are room for the passes.
+// The negation of the core of n records at `at`, written to `to`, which may be its own place, one below it or one past its end, if it is a
+// test and the result has at most `limit` records. The regions from `notes` on are room for the passes.
 pub fn negation(
     work: &mut [u32],
     at: usize,
@@ -30,11 +33,18 @@ pub fn negation(
     out: usize,
     limit: usize,
 ) -> Outcome
-    requires { ⌜ Layout (length (now work)) at n notes modes out limit × (to ≤ notes) ⌝ }
+    requires { ⌜ Layout (length (now work)) at n notes modes out limit × (to ≤ notes) × ((to ≤ at) ⊎ (at + 3 * n ≤ to)) ⌝ }
     requires { ⌜ ((c : Core) × Lies (now work) at n c) ⌝ }
     ensures { λ _. ⌜ Kept to (now (work .entry)) (now (work .exit)) ⌝ }
     ensures { λ r. ⌜ ((c : Core) → Lies (now (work .entry)) at n c → Negates (now (work .exit)) c to limit r) ⌝ }
 {
+    if plain::is_plain(work, at, n) {
+        if limit < n {
+            return Outcome::TooLarge;
+        }
+        plain::negate_plain(work, at, n, to);
+        return Outcome::Size(n as u32);
+    }
     let test = tested::is_test(work, at, n);
     if !test {
         return Outcome::NotTest;

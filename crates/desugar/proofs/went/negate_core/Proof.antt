@@ -1,5 +1,6 @@
 -- `desugar::went::negate_core` meets its contract.
 use mathlib.Core.Path.{refl, sym, ap, _∙_}
+use mathlib.Core.Logic.{inl}
 use native.Mathlib.Omega.{arith}
 use borrow.Author.Needs.{needs}
 use Rattle.desugar.specs.declared.test_negation.Outcome.the-variants.{Size}
@@ -23,7 +24,7 @@ add-out c = search needs
 negation-requires : tie.Need-negation-requires
 negation-requires c κs =
     let p = c .before .before .pre in
-    ((record { small = omega (arith, p .small); few = omega (arith, p .small); notes-at = omega arith; modes-at = omega arith; out-at = omega arith; room = omega (arith, p .room) }, omega arith), (p .core, p .lies))
+    ((record { small = omega (arith, p .small); few = omega (arith, p .small); notes-at = omega arith; modes-at = omega arith; out-at = omega arith; room = omega (arith, p .room) }, omega arith, inl (omega arith)), (p .core, p .lies))
 
 enum-told : tie.Need-enum-told
 enum-told c = search needs

@@ -7,11 +7,11 @@ use native.Mathlib.Omega.{arith}
 use native.Mathlib.Numerals.{add-one}
 use borrow.Author.Needs.{needs}
 use borrow.Author.Tests.{not-true, not-false}
-use Rattle.expr.specs.Terms.{Core}
+use Rattle.expr.specs.Terms.{Core, testKind}
 use Rattle.desugar.specs.Negation.{isTest}
 use Rattle.desugar.specs.Memory.{Lies}
 use Rattle.desugar.specs.NegationRun.{forestAt, allTest}
-use Rattle.desugar.proofs.Forest.{test-on, test-off, over-at}
+use Rattle.desugar.proofs.Forest.{kind-at, test-open, over-at}
 use Rattle.desugar.proofs.test_negation.tested.is_test.Statement.{statement}
 use Rattle.desugar.proofs.test_negation.tested.is_test.Tie as tie
 
@@ -42,7 +42,7 @@ test-kind-requires c κs = search needs
 returns : tie.Need-returns Inv-loop μ-loop
 returns c t h =
     let l = c .before .before .before .before in
-    sym (l .loop .inv .1 t h ∙ test-off t h (l .loop .j) (omega arith) (sym (c .before .test-kind .ensures) ∙ not-true _ (c .if1 .taken)))
+    sym (l .loop .inv .1 t h ∙ kind-at testKind allTest test-open t h (l .loop .j) (omega arith) (sym (c .before .test-kind .ensures) ∙ not-true _ (c .if1 .taken)))
 
 add-j : tie.Need-add-j Inv-loop μ-loop
 add-j c = search needs
@@ -53,7 +53,7 @@ loop-less c = search needs
 loop-again : tie.Need-loop-again Inv-loop μ-loop
 loop-again c =
     let l = c .before .before .before .before in
-    (omega arith, λ t h. rw add-one (l .loop .inv .1 t h ∙ test-on t h (l .loop .j) (omega arith) (sym (c .before .test-kind .ensures) ∙ not-false _ (c .if1 .left))))
+    (omega arith, λ t h. rw add-one (l .loop .inv .1 t h ∙ kind-at testKind allTest test-open t h (l .loop .j) (omega arith) (sym (c .before .test-kind .ensures) ∙ not-false _ (c .if1 .left))))
 
 returns-2 : tie.Need-returns-2 Inv-loop μ-loop
 returns-2 c t h = sym (c .before .loop .inv .1 t h ∙ ap allTest (over-at t h (c .before .loop .j) (omega arith)))

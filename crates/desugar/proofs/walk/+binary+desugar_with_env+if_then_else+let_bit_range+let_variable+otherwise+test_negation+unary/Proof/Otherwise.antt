@@ -2,6 +2,7 @@
 use borrow.Author.Needs.{needs}
 use native.Mathlib.Omega.{arith}
 use mathlib.Core.Path.{ap}
+use mathlib.Core.Logic.{inr}
 use mathlib.Core.List.{List, []}
 use Prim.Native.Nat.{ℕ, _+_, _*_}
 use lib.ListN.{length}
@@ -90,7 +91,7 @@ module _ (t : ℕ) where
   otherwise-add-negation-2 c = search needs
 
   pub otherwise-negation-requires : otherwise-lts.Need-negation-requires (otherwise-claims t) (otherwise-at t) otherwise.Post
-  otherwise-negation-requires c κs = let q = c .before .before .before .pre .1 in ((negation-layout (c .before .before .before .args .place) q, omega arith), (q .condition-core, q .condition))
+  otherwise-negation-requires c κs = let q = c .before .before .before .pre .1 in ((negation-layout (c .before .before .before .args .place) q, omega arith, inr (omega arith)), (q .condition-core, q .condition))
 
   pub otherwise-negated-size-requires : otherwise-lts.Need-negated-size-requires (otherwise-claims t) (otherwise-at t) otherwise.Post
   otherwise-negated-size-requires c κs = search needs
