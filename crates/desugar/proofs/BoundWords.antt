@@ -4,16 +4,18 @@ use mathlib.Core.Bool.{Bool, Bool·beq, cond, false, not, true}
 use mathlib.Core.List.{List, [], _++_, _∷_, append-nil}
 use Prim.Native.Nat.{_*_, _+_, _-_, _<_, _≤_, suc, zero, ℕ}
 use native.Mathlib.Nat.{add-zero, sub-zero}
+use native.Mathlib.Numerals.{add-one}
 use native.Mathlib.Omega.{arith}
 use lib.ListN.{getD, length, length-append}
-use lib.Seq.{sets}
+use lib.Seq.{length-sets, sets}
 use Rattle.literals.specs.Bits.{Bits, bit}
 use Rattle.expr.specs.Terms.{Core, Intersect, One, Test, Union, Zero, leaf, size}
-use Rattle.desugar.specs.LeafWords.{Differs, boundSize, chainSize, difference, differenceSize, differencesSize, linked, stretch, term, tops}
+use Rattle.desugar.specs.LeafWords.{Differs, Ready, boundSize, chainSize, difference, differenceSize, differencesSize, linked, stretch, term, tops}
 use Rattle.desugar.specs.Leaves.{bound, chain, differences, highFirst}
-use Rattle.desugar.specs.Memory.{words, sizeAll}
-use Rattle.desugar.proofs.Chains.{length-linked, length-stretch, link-last, link-more, linked-append, size-chain, sizes-append}
-use Rattle.desugar.proofs.Regions.{sets-append}
+use Rattle.desugar.specs.Memory.{words, sizeAll, Holds, Kept}
+use Rattle.desugar.specs.declared.leaves.Progress.{Progress}
+use Rattle.desugar.proofs.Chains.{length-linked, length-stretch, link-last, link-more, linked-append, size-chain, sizes-append, words-chain}
+use Rattle.desugar.proofs.Regions.{left, moved, none, sets-append, sets-is, stored, under}
 
 -- ## Sizes
 
@@ -140,22 +142,68 @@ module _ (s : ℕ) (a : Bits) (w : ℕ) {p q : ℕ} (e : q ≡ suc p) (h : q ≤
       ∙ link-last Intersect (tops s a w q) (leaf (Test (s + p) v)) l at behind One
       ∙ ap (λ c. sets l at (words c)) (term-is s a w e h v)
 
--- the term of a bit, where it has one
-module _ (d : Bool) (s : ℕ) (a : Bits) (w p : ℕ) (xs : List ℕ) (at : ℕ) where
-  pub difference-none : Bool·beq (getD a p false) d ≡ false → Differs d s a w p xs at xs at
-  difference-none e = record { written = rw e; next = rw e (omega arith) }
+-- no bit has links yet
+pub ready-none : (s : ℕ) (a : Bits) (w : ℕ) (xs : List ℕ) (at : ℕ) → at ≤ length xs → Ready s a w xs (record { to = at; from = at; done = w })
+ready-none s a w xs at h = record {
+  reach = omega arith;
+  before = omega arith;
+  stand = moved (none xs at h) refl (ap (linked Intersect) (sym (tops-none s a w)));
+}
 
-  pub difference-one : Bool·beq (getD a p false) d ≡ true → {ys zs : List ℕ}
-      → ys ≡ sets xs at (7 ∷ 0 ∷ 0 ∷ []) → zs ≡ sets ys (at + 3) (words (term s a w p (not d)))
-      → Differs d s a w p xs at zs (at + 6 * (w - p))
-  difference-one e {ys} {zs} first second =
+-- links stay when numbers are stored behind them
+pub ready-under : {s : ℕ} {a : Bits} {w : ℕ} {xs xs′ : List ℕ} {r : Progress} (ys : List ℕ) → Ready s a w xs r → xs′ ≡ sets xs (r .to) ys
+    → Ready s a w xs′ (record { to = r .to + length ys; from = r .from; done = r .done })
+ready-under {s} {a} {w} {xs} {xs′} {r} ys h e = record {
+  reach = h .reach;
+  before = omega (arith, h .before);
+  stand = rw e (under (r .to) ys (omega (arith, h .before, length-tops s a w (r .done))) (h .stand));
+}
+
+-- links copied to where the next records go
+pub links-copied : {s : ℕ} {a : Bits} {w : ℕ} {xs xs′ : List ℕ} {r : Progress} → Ready s a w xs r → Kept (r .to) xs xs′
+    → ((ys : List ℕ) → length ys ≡ 6 * (w - r .done) → Holds xs (r .from) ys → Holds xs′ (r .to) ys)
+    → ((k : ℕ) → r .to + 6 * (w - r .done) ≤ k → getD xs′ k 0 ≡ getD xs k 0)
+    → xs′ ≡ sets xs (r .to) (linked Intersect (tops s a w (r .done)))
+links-copied {s} {a} {w} {xs} {xs′} {r} h kept copied behind =
+    let long = length-tops s a w (r .done) in
+    sets-is (linked Intersect (tops s a w (r .done))) kept (copied _ long (h .stand)) (λ k l. behind k (omega arith))
+
+-- the links of a term that is written
+links-stand : (s : ℕ) (a : Bits) (w p : ℕ) (v : Bool) (xs : List ℕ) (at : ℕ) → p < w → at + 3 * chainSize (w - p) ≤ length xs
+    → Holds (sets xs at (words (term s a w p v))) at (linked Intersect (tops s a w (p + 1)))
+links-stand s a w p v xs at l h =
+    let us : List ℕ = linked Intersect (tops s a w (suc p)) in
+    let vs : List ℕ = words (leaf (Test (s + p) v)) in
+    let e : words (term s a w p v) ≡ us ++ vs = words-chain Intersect One (tops s a w (suc p)) (leaf (Test (s + p) v)) in
+    let long : length (words (term s a w p v)) ≡ 6 * (w - suc p) + 3 = ap length e ∙ length-append us vs ∙ ap (λ n. n + 3) (length-tops s a w (suc p)) in
+    rw (add-one p) (left us vs (moved (stored xs at (words (term s a w p v)) (omega arith)) refl e))
+
+-- the term of a bit, where it has one
+module _ (d : Bool) (s : ℕ) (a : Bits) (w p : ℕ) (xs : List ℕ) {r : Progress} (l : p < r .done) (h : Ready s a w xs r) where
+  pub difference-none : Bool·beq (getD a p false) d ≡ false → Differs d s a w p xs (r .to) xs r
+  difference-none e = record { written = rw e; next = rw e (omega arith); above = l; ready = h }
+
+  pub difference-one : Bool·beq (getD a p false) d ≡ true → r .to + 6 * (w - p) ≤ length xs → {ys zs : List ℕ}
+      → ys ≡ sets xs (r .to) (7 ∷ 0 ∷ 0 ∷ []) → zs ≡ sets ys (r .to + 3) (words (term s a w p (not d)))
+      → Differs d s a w p xs (r .to) zs (record { to = r .to + 6 * (w - p); from = r .to + 3; done = p + 1 })
+  difference-one e room {ys} {zs} first second =
+      let at : ℕ = r .to in
       let own : List ℕ = words (term s a w p (not d)) in
       let both : zs ≡ sets xs at (7 ∷ 0 ∷ 0 ∷ (own ++ [])) =
       second
       ∙ ap (λ (l : List ℕ). sets l (at + 3) own) first
       ∙ sets-append xs at (7 ∷ 0 ∷ 0 ∷ []) own
       ∙ ap (λ (l : List ℕ). sets xs at (7 ∷ 0 ∷ 0 ∷ l)) (sym (append-nil own)) in
-      record { written = rw e both; next = rw e (omega arith) }
+      record {
+        written = rw e both;
+        next = rw e (omega arith);
+        above = omega arith;
+        ready = record {
+          reach = omega (arith, h .reach);
+          before = omega (arith, h .reach);
+          stand = rw second (links-stand s a w p (not d) ys (at + 3) (omega (arith, h .reach)) (omega (arith, h .reach, ap length first, length-sets xs at (7 ∷ 0 ∷ 0 ∷ []))));
+        };
+      }
 
 -- what is written so far are the terms of the bits from index q on
 module _ (d : Bool) (s : ℕ) (a : Bits) (w q : ℕ) (l : List ℕ) (at : ℕ) {to : ℕ} {xs : List ℕ}
@@ -167,7 +215,7 @@ module _ (d : Bool) (s : ℕ) (a : Bits) (w q : ℕ) (l : List ℕ) (at : ℕ) {
   end : to ≡ at + length (linked Union terms)
   end = omega (arith, length-linked Union terms, size-differences d (s + q) (stretch a q (w - q)))
 
-  pub bound-more : {p : ℕ} → q ≡ suc p → q ≤ w → {ys : List ℕ} {r : ℕ} → Differs d s a w p xs to ys r
+  pub bound-more : {p : ℕ} → q ≡ suc p → q ≤ w → {ys : List ℕ} {r : Progress} → Differs d s a w p xs to ys r
       → ys ≡ sets l at (linked Union (differences d (s + p) (stretch a p (w - p))))
   bound-more {p} e h step =
       let own : List ℕ = linked Union (difference d s a w p) in

@@ -1,11 +1,14 @@
 -- Laws of regions: a region taken apart and put together, and what stores leave of it.
 use mathlib.Core.Path.{_≡_, refl, sym, ap, _∙_, subst}
+use mathlib.Core.Bool.{Bool, true, false}
 use mathlib.Core.Logic.{_⊎_, inl, inr}
 use mathlib.Core.List.{List, [], _∷_, _++_}
 use Prim.Native.Nat.{ℕ, zero, suc, _+_, _-_, _*_, _≤_, _<_}
 use native.Mathlib.Nat.{not-suc-le-zero, le-of-suc-le-suc, add-suc, add-zero, suc-add}
 use native.Mathlib.Omega.{arith}
 use borrow.Author.Count.{below-more}
+use borrow.Author.Tests.{ltb-false, ltb-true}
+use lib.Dec.{ltb}
 use lib.ListN.{length, take, drop, getD, set, length-append, length-set, List·getD-append, length-take, length-drop}
 use lib.Seq.{sets, length-sets, getD-append-add, getD-set-same, getD-set-other, ext-getD, getD-take, getD-drop}
 use Rattle.expr.specs.Terms.{Core, leaf, one, two, size}
@@ -112,6 +115,23 @@ kept-holds p a h = record {
   each = λ k l. p .each _ (omega arith) ∙ h .each k l;
 }
 
+-- a list that differs from xs only where it has the numbers ys is xs with these stored
+pub sets-is : {xs xs′ : List ℕ} {i : ℕ} (ys : List ℕ) → Kept i xs xs′ → Holds xs′ i ys → ((k : ℕ) → i + length ys ≤ k → getD xs′ k 0 ≡ getD xs k 0)
+    → xs′ ≡ sets xs i ys
+sets-is {xs} {xs′} {i} ys p h above =
+    ext-getD 0 xs′ (sets xs i ys) (p .long ∙ sym (length-sets xs i ys)) (λ k l. go k (ltb k i) (ltb k (i + length ys)) refl refl)
+  where
+    own : Holds (sets xs i ys) i ys
+    own = stored xs i ys (omega (arith, h .fits, p .long))
+
+    go : (k : ℕ) (x y : Bool) → ltb k i ≡ x → ltb k (i + length ys) ≡ y → getD xs′ k 0 ≡ getD (sets xs i ys) k 0
+    go k true y e f = let l = ltb-true k i e in p .each k l ∙ sym (sets-below xs i ys k l)
+    go k false true e f =
+        let l : k - i < length ys = omega (arith, ltb-false k i e, ltb-true k (i + length ys) f) in
+        let at : k ≡ i + (k - i) = omega (arith, ltb-false k i e) in
+        same-at xs′ at ∙ h .each (k - i) l ∙ sym (own .each (k - i) l) ∙ same-at (sets xs i ys) (sym at)
+    go k false false e f = let l = ltb-false k (i + length ys) f in above k l ∙ sym (sets-above xs i ys k l)
+
 -- ## A region as a part of the list
 
 pub part : (xs : List ℕ) (i : ℕ) (ys : List ℕ) → Holds xs i ys → take (length ys) (drop i xs) ≡ ys
@@ -136,9 +156,10 @@ pub record Copied (xs₀ xs : List ℕ) (from to count i : ℕ) : Type 0 where
   pub kept : Kept to xs₀ xs
   pub moved : (k : ℕ) → k < i → getD xs (to + k) 0 ≡ getD xs₀ (from + k) 0
   pub others : (k : ℕ) → i ≤ k → k < count → getD xs (from + k) 0 ≡ getD xs₀ (from + k) 0
+  pub behind : (k : ℕ) → to + count ≤ k → getD xs k 0 ≡ getD xs₀ k 0
 
 pub copied-none : (xs : List ℕ) (from to count : ℕ) → Copied xs xs from to count 0
-copied-none xs from to count = record { kept = kept-all to xs; moved = λ k l. absurd (omega arith); others = λ k l m. refl }
+copied-none xs from to count = record { kept = kept-all to xs; moved = λ k l. absurd (omega arith); others = λ k l m. refl; behind = λ k l. refl }
 
 module _ (xs₀ xs : List ℕ) (from to count i : ℕ) (room : CopyRoom (length xs₀) from to count) where
   -- what is yet to be copied is not overwritten
@@ -153,6 +174,7 @@ module _ (xs₀ xs : List ℕ) (from to count i : ℕ) (room : CopyRoom (length 
         (λ k l. getD-set-other xs (to + i) (to + k) (getD xs (from + i) 0) 0 (omega arith) ∙ c .moved k l)
         (getD-set-same xs (to + i) (getD xs (from + i) 0) 0 (omega (arith, c .kept .long, room .target)) ∙ c .others i (omega arith) l);
     others = λ k m n. getD-set-other xs (to + i) (from + k) (getD xs (from + i) 0) 0 (others-apart (room .apart) k (omega arith) n) ∙ c .others k (omega arith) n;
+    behind = λ k m. getD-set-other xs (to + i) k (getD xs (from + i) 0) 0 (omega arith) ∙ c .behind k m;
   }
 
   pub copied-all : count ≤ i → Copied xs₀ xs from to count i → (ys : List ℕ) → length ys ≡ count → Holds xs₀ from ys → Holds xs to ys

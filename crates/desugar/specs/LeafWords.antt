@@ -5,7 +5,7 @@ use Prim.Native.Nat.{ℕ, zero, suc, _+_, _-_, _*_, _^_, _≤_, _<_}
 use lib.{Dec.eqb, ListN.length, ListN.getD, Seq.sets}
 use Rattle.literals.specs.{Bits.Bits, Bits.bit, Bits.valueOf}
 use Rattle.expr.specs.{Terms.Atom, Terms.Op2, Terms.Core, Terms.leaf, Terms.op2Kind, Terms.One, Terms.Test, Terms.Intersect, Terms.Union}
-use Rattle.desugar.specs.{Leaves.chain, Leaves.highFirst, Memory.words, Rules.maxRangeBits}
+use Rattle.desugar.specs.{Leaves.chain, Leaves.highFirst, Memory.Holds, Memory.words, Rules.maxRangeBits, declared.leaves.Progress.Progress}
 
 -- n bits of a literal, from index i on: false beyond its last
 abbrev pub stretch : Bits → ℕ → ℕ → Bits
@@ -66,10 +66,18 @@ pub record BoundRoom (xs : List ℕ) (at n start width : ℕ) : Type 0 where
   pub some : 0 < width
   pub wide : width ≤ maxRangeBits
 
--- the term of bit p was written at index at, where there is one, and r is the index behind it
-pub record Differs (d : Bool) (s : ℕ) (a : Bits) (w p : ℕ) (xs : List ℕ) (at : ℕ) (xs′ : List ℕ) (r : ℕ) : Type 0 where
+-- the links of the bits from index `done` on stand at `from`, before index `to`
+pub record Ready (s : ℕ) (a : Bits) (w : ℕ) (xs : List ℕ) (r : Progress) : Type 0 where
+  pub reach : r .done ≤ w
+  pub before : r .from + 6 * (w - r .done) ≤ r .to
+  pub stand : Holds xs (r .from) (linked Intersect (tops s a w (r .done)))
+
+-- the term of bit p was written at index at, where there is one; r tells the index behind it, and where links of bits above p stand
+pub record Differs (d : Bool) (s : ℕ) (a : Bits) (w p : ℕ) (xs : List ℕ) (at : ℕ) (xs′ : List ℕ) (r : Progress) : Type 0 where
   pub written : xs′ ≡ sets xs at (linked Union (difference d s a w p))
-  pub next : r ≡ at + 3 * differenceSize d a w p
+  pub next : r .to ≡ at + 3 * differenceSize d a w p
+  pub above : p < r .done
+  pub ready : Ready s a w xs′ r
 
 -- ## Masks
 

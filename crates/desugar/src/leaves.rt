@@ -10,7 +10,7 @@ ghost use Rattle.expr.specs.Terms.{Atom, One, Op2};
 ghost use Rattle.desugar.specs.Leaves.{bound, chain, eachBit};
 ghost use Rattle.desugar.specs.Rules.{maxRangeBits};
 ghost use Rattle.desugar.specs.Memory.{words};
-ghost use Rattle.desugar.specs.LeafWords.{Kinds, ChainRoom, BoundRoom, Differs, chainSize, boundSize, differenceSize, stretch, term};
+ghost use Rattle.desugar.specs.LeafWords.{Kinds, ChainRoom, BoundRoom, Ready, Differs, chainSize, boundSize, differenceSize, stretch, term};
 use crate::memory::write_record;
 
 // How many records a chain of atoms has.
@@ -74,10 +74,18 @@ pub fn write_chain(
     write_record(work, at + 6 * last, atom, start + last as u32, value(b));
 }
 
+// Where a bound's next records go, and where the links of its bits from `done` up stand: all terms begin with the same
+// links, so a term's first ones are copied from the term before it.
+pub struct Progress {
+    pub to: usize,
+    pub from: usize,
+    pub done: usize,
+}
+
 // The tests that the fields above bit i agree with a bound of `width` bits, and that the field of bit i is v.
 fn write_term(
     work: &mut [u32],
-    at: usize,
+    progress: Progress,
     start: u32,
     bytes: &[u8],
     bits: usize,
@@ -85,11 +93,14 @@ fn write_term(
     i: usize,
     v: bool,
 )
-    requires { ⌜ (at + 3 * chainSize (width - i) ≤ length (now work)) × (i < width) × («start» + width ≤ 2 ^ 32) ⌝ }
-    ensures { λ r. ⌜ now (work .exit) ≡ sets (now (work .entry)) at (words (term «start» (take bits (unpack (now (bytes .entry)))) width i v)) ⌝ }
+    requires { ⌜ (progress .to + 3 * chainSize (width - i) ≤ length (now work)) × (i < progress .done) × («start» + width ≤ 2 ^ 32) × Ready «start» (take bits (unpack (now bytes))) width (now work) progress ⌝ }
+    ensures { λ r. ⌜ now (work .exit) ≡ sets (now (work .entry)) (progress .to) (words (term «start» (take bits (unpack (now (bytes .entry)))) width i v)) ⌝ }
 {
-    let mut to = at;
-    let mut p = width;
+    let count = 6 * (width - progress.done);
+    let at = progress.to;
+    crate::memory::copy(work, progress.from, at, count);
+    let mut to = at + count;
+    let mut p = progress.done;
     while i + 1 < p {
         p -= 1;
         let b = literals::literal_bit(bytes, bits, p);
@@ -99,27 +110,35 @@ fn write_term(
     write_record(work, to, 6, start + i as u32, value(v));
 }
 
-// The term of bit i of a bound, with the operator before it, where the bit is `upper`; the index behind it.
+// The term of bit i of a bound, with the operator before it, where the bit is `upper`; the progress then.
 fn write_difference(
     work: &mut [u32],
-    at: usize,
+    progress: Progress,
     start: u32,
     bytes: &[u8],
     bits: usize,
     width: usize,
     i: usize,
     upper: bool,
-) -> usize
-    requires { ⌜ BoundRoom (now work) at (differenceSize upper (take bits (unpack (now bytes))) width i) «start» width × (i < width) ⌝ }
-    ensures { λ r. ⌜ Differs upper «start» (take bits (unpack (now (bytes .entry)))) width i (now (work .entry)) at (now (work .exit)) r ⌝ }
+) -> Progress
+    requires { ⌜ BoundRoom (now work) (progress .to) (differenceSize upper (take bits (unpack (now bytes))) width i) «start» width × (i < progress .done) × Ready «start» (take bits (unpack (now bytes))) width (now work) progress ⌝ }
+    ensures { λ r. ⌜ Differs upper «start» (take bits (unpack (now (bytes .entry)))) width i (now (work .entry)) (progress .to) (now (work .exit)) r ⌝ }
 {
     let b = literals::literal_bit(bytes, bits, i);
     if b != upper {
-        return at;
+        return progress;
     }
-    write_record(work, at, 7, 0, 0);
-    write_term(work, at + 3, start, bytes, bits, width, i, !upper);
-    at + 6 * (width - i)
+    write_record(work, progress.to, 7, 0, 0);
+    let from = progress.to + 3;
+    let term = Progress {
+        to: from,
+        from: progress.from,
+        done: progress.done,
+    };
+    write_term(work, term, start, bytes, bits, width, i, !upper);
+    let to = progress.to + 6 * (width - i);
+    let done = i + 1;
+    Progress { to, from, done }
 }
 
 // The upper or the lower bound of a range's value: a literal padded to the range's width.
@@ -135,14 +154,18 @@ pub fn write_bound(
     requires { ⌜ BoundRoom (now work) at (boundSize upper (stretch (take bits (unpack (now bytes))) 0 width)) «start» width ⌝ }
     ensures { λ r. ⌜ now (work .exit) ≡ sets (now (work .entry)) at (words (bound upper «start» (stretch (take bits (unpack (now (bytes .entry)))) 0 width))) ⌝ }
 {
-    let mut to = at;
+    let mut progress = Progress {
+        to: at,
+        from: at,
+        done: width,
+    };
     let mut p = width;
     while 0 < p {
         p -= 1;
-        to = write_difference(work, to, start, bytes, bits, width, p, upper);
+        progress = write_difference(work, progress, start, bytes, bits, width, p, upper);
     }
     let b = literals::literal_bit(bytes, bits, 0);
-    write_term(work, to, start, bytes, bits, width, 0, b);
+    write_term(work, progress, start, bytes, bits, width, 0, b);
 }
 
 // How many records the term of bit i of a bound has, with the operator before it.

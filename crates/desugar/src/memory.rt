@@ -2,7 +2,7 @@
 ghost use mathlib.Core.Path.{_≡_};
 ghost use mathlib.Core.List.{List, [], _∷_};
 ghost use Prim.Native.Nat.{ℕ, _+_, _≤_};
-ghost use lib.ListN.{length};
+ghost use lib.ListN.{length, getD};
 ghost use lib.Seq.{sets};
 ghost use Rattle.desugar.specs.Memory.{Holds, Kept, CopyRoom};
 
@@ -28,6 +28,7 @@ pub(crate) fn copy(work: &mut [u32], from: usize, to: usize, count: usize)
     requires { ⌜ CopyRoom (length (now work)) from to count ⌝ }
     ensures { λ _. ⌜ Kept to (now (work .entry)) (now (work .exit)) ⌝ }
     ensures { λ _. ⌜ ((ys : List ℕ) → length ys ≡ count → Holds (now (work .entry)) from ys → Holds (now (work .exit)) to ys) ⌝ }
+    ensures { λ _. ⌜ ((k : ℕ) → to + count ≤ k → getD (now (work .exit)) k 0 ≡ getD (now (work .entry)) k 0) ⌝ }
 {
     let mut i = 0;
     while i < count {

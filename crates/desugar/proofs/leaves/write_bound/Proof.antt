@@ -1,25 +1,26 @@
--- `desugar::leaves::write_bound` meets its contract. The loop's invariant: the terms of the bits from p on are written, and `to` lies behind them.
+-- `desugar::leaves::write_bound` meets its contract. The loop's invariant: the terms of the bits from p on are written, and `progress` tells the index behind them and where links of bits from p on stand.
 use mathlib.Core.Path.{_∙_, _≡_, ap, sym}
-use Prim.Native.Nat.{_*_, _+_, _-_, _≤_, suc}
+use Prim.Native.Nat.{_*_, _+_, _-_, _<_, _≤_, suc}
 use native.Mathlib.Omega.{arith}
 use borrow.Author.Needs.{needs}
 use lib.ListN.{length, take}
 use lib.Seq.{sets}
 use Rattle.literals.specs.Bits.{unpack}
 use Rattle.expr.specs.Terms.{Union}
-use Rattle.desugar.specs.LeafWords.{differencesSize, linked, stretch}
+use Rattle.desugar.specs.LeafWords.{Ready, differencesSize, linked, stretch}
 use Rattle.desugar.specs.Leaves.{differences}
-use Rattle.desugar.proofs.BoundWords.{bound-last, bound-more, differences-none, size-below, size-more, size-none, size-whole}
+use Rattle.desugar.proofs.BoundWords.{bound-last, bound-more, differences-none, ready-none, size-below, size-more, size-none, size-whole}
 use Rattle.desugar.proofs.leaves.write_bound.Statement.{statement}
 use Rattle.desugar.proofs.leaves.write_bound.Tie as tie
 
 abbrev Inv-loop : tie.InvT-loop
-Inv-loop work₀ at start bytes bits width upper to₀ p₀ work to p =
-    (p ≤ width) × (to ≡ at + 3 * differencesSize upper (stretch (take bits (unpack bytes)) p (width - p))) × (length work ≡ length work₀)
+Inv-loop work₀ at start bytes bits width upper progress₀ p₀ work progress p =
+    (p ≤ width) × (progress .to ≡ at + 3 * differencesSize upper (stretch (take bits (unpack bytes)) p (width - p))) × (length work ≡ length work₀)
     × (work ≡ sets work₀ at (linked Union (differences upper (start + p) (stretch (take bits (unpack bytes)) p (width - p)))))
+    × (p ≤ progress .done) × (0 < progress .done) × Ready start (take bits (unpack bytes)) width work progress
 
 abbrev μ-loop : tie.MeasureT-loop
-μ-loop work₀ at start bytes bits width upper to₀ p₀ work to p = p
+μ-loop work₀ at start bytes bits width upper progress₀ p₀ work progress p = p
 
 loop-holds : tie.Need-loop-holds Inv-loop μ-loop
 loop-holds c =
@@ -29,6 +30,9 @@ loop-holds c =
       omega (arith, size-none (a .upper) bits (a .width)),
       search needs,
       ap (λ cs. sets (a .work .now) (a .at) (linked Union cs)) (sym (differences-none (a .upper) (a .start) bits (a .width))),
+      search needs,
+      search needs,
+      ready-none (a .start) bits (a .width) (a .work .now) (a .at) (omega arith),
     )
 
 sub-p : tie.Need-sub-p Inv-loop μ-loop
@@ -42,7 +46,7 @@ write-difference-requires c κs =
     let down : p ≡ suc (p - 1) = omega arith in
     let more = size-more (a .upper) bits (a .width) down (omega arith) in
     let below = size-below (a .upper) bits (a .width) (p - 1) (omega arith) in
-    (record { room = omega arith; fields = omega arith; some = omega arith; wide = omega arith }, omega arith)
+    (record { room = omega arith; fields = omega arith; some = omega arith; wide = omega arith }, omega arith, c .before .before .loop .inv .6)
 
 loop-less : tie.Need-loop-less Inv-loop μ-loop
 loop-less c = search needs
@@ -59,6 +63,9 @@ loop-again c =
       omega (arith, step .next),
       search needs,
       bound-more (a .upper) (a .start) bits (a .width) p (a .work .now) (a .at) (c .before .before .before .before .before .loop .inv .3) (c .before .before .before .before .before .loop .inv .1) down (omega arith) step,
+      omega (arith, step .above),
+      omega (arith, step .above),
+      step .ready,
     )
 
 literal-bit-requires : tie.Need-literal-bit-requires Inv-loop μ-loop
@@ -68,7 +75,7 @@ write-term-requires : tie.Need-write-term-requires Inv-loop μ-loop
 write-term-requires c κs =
     let a = c .before .before .before .before .before .before .args in
     let whole = size-whole (a .upper) (take (a .bits) (unpack (a .bytes .now))) (a .width) {p = c .before .before .before .loop .p} (omega arith) in
-    (omega arith, omega arith, omega arith)
+    (omega arith, omega arith, omega arith, c .before .before .before .loop .inv .6)
 
 same-length : tie.Need-same-length Inv-loop μ-loop
 same-length c = search needs

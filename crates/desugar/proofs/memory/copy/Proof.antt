@@ -50,7 +50,7 @@ same-length c = c .before .loop .inv .1 .kept .long
 returns : tie.Need-returns Inv-loop μ-loop
 returns c =
     let a = c .before .before .args in
-    (c .before .loop .inv .1 .kept, copied-all _ _ (a .from) (a .to) (a .count) (c .before .loop .i) (c .before .before .pre) (omega arith) (c .before .loop .inv .1))
+    (c .before .loop .inv .1 .kept, (copied-all _ _ (a .from) (a .to) (a .count) (c .before .loop .i) (c .before .before .pre) (omega arith) (c .before .loop .inv .1), c .before .loop .inv .1 .behind))
 
 pub copy-spec : {M : Type 1} → statement M
 copy-spec =

@@ -100,7 +100,7 @@ returns-4 c =
     let negate = c .before .before .before .before .before .before .before .before .before .before .negate .ensures in
     let down = c .before .before .copy .ensures in (
       kept-then (kept-less (omega (arith, s .pre .0 .0, s .pre .0 .1)) (m .measure .ensures .0)) (kept-then (kept-less (omega (arith, s .pre .0 .0, s .pre .0 .1)) (negate .0)) (down .0)),
-      λ t h. fits (noted t h .test) (negate .1 t (noted t h)) (c .before .before .before .before .before .before .negated .given .1) (λ ys e. down .1 ys (e ∙ ap (λ (k : ℕ). 3 * k) (sym (c .before .before .before .before .wide .ensures)))),
+      λ t h. fits (noted t h .test) (negate .1 t (noted t h)) (c .before .before .before .before .before .before .negated .given .1) (λ ys e. down .1 .0 ys (e ∙ ap (λ (k : ℕ). 3 * k) (sym (c .before .before .before .before .wide .ensures)))),
     )
 
 same-length-5 : tie.Need-same-length-5

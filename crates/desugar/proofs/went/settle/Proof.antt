@@ -21,7 +21,7 @@ same-length : tie.Need-same-length
 same-length c = search needs
 
 returns-2 : tie.Need-returns-2
-returns-2 c = (c .before .before .copy .ensures .0, lies-copied (c .before .before .copy .ensures .1))
+returns-2 c = (c .before .before .copy .ensures .0, lies-copied (c .before .before .copy .ensures .1 .0))
 
 pub settle-spec : {M : Type 1} → statement M
 settle-spec = tie.close (tie.spec returns mul-copy copy-requires same-length returns-2)
