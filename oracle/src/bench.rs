@@ -1,4 +1,4 @@
-//! Times of the port and of the original, on policies of a folder and of policies.rs.
+//! Times of the port and of the original, on policies of a folder and of policies.rs; terms of growing size, to count instructions on.
 use crate::desugar::desugar;
 use crate::expr::Expr;
 use crate::model::{decode, desugar_walk, work_needed, Env, Meter};
@@ -147,4 +147,25 @@ pub fn run(folder: &str) -> bool {
         );
     }
     true
+}
+
+/// Writes the growing policies of policies.rs to a folder, a file each.
+pub fn terms(folder: &str) -> bool {
+    for (name, term) in policies::growing() {
+        let path = format!("{folder}/{name}.bin");
+        std::fs::write(&path, term).unwrap_or_else(|e| panic!("{path}: {e}"));
+    }
+    true
+}
+
+/// One call of the port, for a tool that counts its instructions: prints the term's bytes, the core's bytes and the drawn total.
+pub fn once(path: &str) -> bool {
+    let term = std::fs::read(path).unwrap_or_else(|e| panic!("{path}: {e}"));
+    let mut work = vec![0; work_needed(ALLOWANCE) as usize];
+    let mut out = vec![0; LONGEST_CORE];
+    match port::desugar_into(&term, ALLOWANCE, &mut work, &mut out) {
+        Ok((length, drawn)) => println!("{} {length} {drawn}", term.len()),
+        Err((number, place)) => println!("{path}: refused by {number} at {place}"),
+    }
+    port::check(&term).is_ok()
 }

@@ -22,7 +22,9 @@ oracle meaning SEED COUNT                   packet meaning of a written term and
 oracle sample SEED COUNT BUDGET             random vector lines with the model's answers
 oracle answer                               completes the vector lines on standard input, from what stands before =>
 oracle show HEX                             what each makes of one term
-oracle bench FOLDER                         times of the port and of the original";
+oracle bench FOLDER                         times of the port and of the original
+oracle terms FOLDER                         writes terms of growing size
+oracle once FILE                            one call of the port";
 
 fn number(args: &[String], i: usize) -> u64 {
     args.get(i).and_then(|s| s.parse().ok()).unwrap_or_else(|| {
@@ -55,6 +57,8 @@ fn run(args: Vec<String>) -> bool {
         "answer" => vectors::answer(),
         "show" if args.len() == 3 => compare::show(&vectors::unhex(&args[2])),
         "bench" if args.len() == 3 => bench::run(&args[2]),
+        "terms" if args.len() == 3 => bench::terms(&args[2]),
+        "once" if args.len() == 3 => bench::once(&args[2]),
         _ => {
             eprintln!("{USAGE}");
             false

@@ -1,4 +1,4 @@
-//! Three policies that look like real ones, for `oracle bench`.
+//! Policies that look like real ones, for `oracle bench` and `oracle terms`: each of any number of rules.
 use crate::gen::{node, Rng};
 use crate::model::*;
 
@@ -51,10 +51,10 @@ fn joined(kind: u8, mut items: Vec<Node>) -> Node {
     two(kind, joined(kind, items), joined(kind, back))
 }
 
-/// 200 entries: a source prefix, a destination prefix or, in each tenth, an address range, and a port or, in each eighth, a port range.
-fn access_list() -> Node {
+/// `count` entries: a source prefix, a destination prefix or, in each tenth, an address range, and a port or, in each eighth, a port range.
+fn access_list(count: u32) -> Node {
     let mut r = Rng::new(1);
-    let entries = (0..200)
+    let entries = (0..count)
         .map(|i| {
             let source = prefix(SRC, 0x0a00_0000 | r.below(1 << 24) as u32, 16 + r.below(9) as u8);
             let network = 0xc0a8_0000 | (r.below(256) as u32) << 8;
@@ -72,24 +72,23 @@ fn access_list() -> Node {
     with_aliases(two(SEQUENCE, joined(UNION, entries), send_to(1)))
 }
 
-/// 40 rules, the first that matches counts: ifs in else branches, the last drops.
-fn first_match() -> Node {
+/// `count` rules, the first that matches counts: ifs in else branches, the last drops.
+fn first_match(count: u32) -> Node {
     let mut r = Rng::new(2);
     let mut rest = node(ZERO, vec![]);
-    for i in (0..40).rev() {
+    for i in (0..count).rev() {
         let service = if i % 8 == 0 { range(PORT, 16, 8000, 8000 + r.below(1000) as u32) } else { port_is(r.below(10_000) as u32) };
         let network = 0x0a00_0000 | (r.below(1 << 16) as u32) << 8;
         let condition = two(INTERSECT, prefix(if i % 2 == 0 { SRC } else { DST }, network, 24), service);
-        let action = if i % 3 == 0 { node(ZERO, vec![]) } else { send_to(i) };
+        let action = if i % 3 == 0 { node(ZERO, vec![]) } else { send_to(i % 256) };
         rest = node(IF, vec![condition, action, rest]);
     }
     with_aliases(rest)
 }
 
-/// 24 tenants, each with variables for its sources and its destinations. A tenant reaches itself and the shared services, unless the
+/// `count` tenants, each with variables for its sources and its destinations. A tenant reaches itself and the shared services, unless the
 /// source is in quarantine; nothing else passes.
-fn tenants() -> Node {
-    let count = 24;
+fn tenants(count: u16) -> Node {
     let source = |i: u16| FIRST_VARIABLE + 2 * i;
     let destination = |i: u16| FIRST_VARIABLE + 2 * i + 1;
     let (shared, quarantine) = (FIRST_VARIABLE + 2 * count, FIRST_VARIABLE + 2 * count + 1);
@@ -109,8 +108,32 @@ fn tenants() -> Node {
     with_aliases(let_in(shared, services, let_in(quarantine, held, body)))
 }
 
+/// One test of a range of `width` fields.
+fn wide_test(width: u32) -> Node {
+    alias(SRC, 0, width, Node { kind: VARTEST, name: SRC, a: literal(1, 1), ..Node::default() })
+}
+
 pub fn all() -> Vec<(String, Vec<u8>)> {
-    [("access list, 200 entries", access_list()), ("first match, 40 rules", first_match()), ("tenant isolation", tenants())]
+    [("access list, 200 entries", access_list(200)), ("first match, 40 rules", first_match(40)), ("tenant isolation", tenants(24))]
         .map(|(name, tree)| (name.to_string(), encoded(&tree)))
         .into()
+}
+
+/// The same policies from about 1,000 to about 60,000 drawn nodes, or to the deepest term that is allowed.
+pub fn growing() -> Vec<(String, Vec<u8>)> {
+    let mut all = Vec::new();
+    let mut add = |family: &str, size: u32, tree: Node| all.push((format!("{family}-{size}"), encoded(&tree)));
+    for n in [3, 6, 13, 26, 52, 104, 190] {
+        add("access_list", n, access_list(n));
+    }
+    for n in [4, 8, 15, 30, 60, 120, 225] {
+        add("first_match", n, first_match(n));
+    }
+    for n in [3, 6, 12, 24, 48, 96, 118] {
+        add("tenants", n, tenants(n as u16));
+    }
+    for n in [500, 1000, 2000, 4000, 8000, 16000, 30000] {
+        add("wide_test", n, wide_test(n));
+    }
+    all
 }
