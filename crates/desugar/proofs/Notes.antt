@@ -2,7 +2,7 @@
 use mathlib.Core.Path.{_≡_, refl, sym, ap, _∙_, subst}
 use mathlib.Core.Bool.{Bool, true, false, cond, _&&_, false≢true}
 use mathlib.Core.List.{List, [], _∷_, _++_, append-nil}
-use Prim.Native.Nat.{ℕ, suc, _+_, _*_, _-_, _/_, _%_, _^_, _≤_, _<_}
+use Prim.Native.Nat.{ℕ, zero, suc, _+_, _*_, _-_, _/_, _%_, _^_, _≤_, _<_}
 use native.Mathlib.Omega.{arith}
 use lib.Dec.{eqb}
 use lib.ListN.{length, getD, set}
@@ -14,7 +14,7 @@ use Rattle.literals.proofs.Bits.{bit-small}
 use Rattle.expr.specs.Terms.{Atom, Op2, Core, leaf, one, two, Zero, One, Top, Dup, End, Assign, Test, Union, Intersect, Xor, Difference, Sequence, LtlUntil, atomKind, op2Kind, size}
 use Rattle.desugar.specs.Negation.{isTest, isOne, again}
 use Rattle.desugar.specs.Memory.{Holds, Kept, Lies, sizeAll}
-use Rattle.desugar.specs.NegationRun.{coreKind, operands, allTest, opened, forestAt, oneAgain, note, notesOf, notesAll, leftAt, rightAt, leafNote, pairNote, noteAt, TwoNotes, CanNote}
+use Rattle.desugar.specs.NegationRun.{coreKind, operands, allTest, opened, forestAt, oneAgain, note, notesOf, notesAll, leftAt, rightAt, leafNote, pairOne, pairNote, noteAt, TwoNotes, Parts, CanNote}
 use Rattle.desugar.proofs.Regions.{moved, right, head, cons, over, same-at, kept-then, kept-sets, size-pos}
 use Rattle.desugar.proofs.Forest.{At, at, notes-open, notes-long, notes-all-long, size-at, tests-at, leaf-kind, op-kind}
 
@@ -103,6 +103,46 @@ two-notes xs i (two o a b) cs t s k h =
     let p : Pair xs i a b = pair a b cs h in
     record { left-in = p .left-in; right-in = p .right-in; small = omega (arith, p .left, p .right, bit-small (oneAgain a), bit-small (oneAgain b)) }
 
+-- ## A note written from the parts of the note behind it
+
+-- two bits' product
+pub bits-product : (x y : ℕ) → x ≤ 1 → y ≤ 1 → x * y ≡ bit (eqb x 1 && eqb y 1)
+bits-product zero y p q = omega arith
+bits-product (suc zero) zero p q = refl
+bits-product (suc zero) (suc zero) p q = refl
+bits-product (suc zero) (suc (suc y)) p q = absurd (omega arith)
+bits-product (suc (suc x)) y p q = absurd (omega arith)
+
+pub wrote-parts : (xs : List ℕ) (i v s o : ℕ) → i < length xs → v ≡ 2 * s + o → o ≤ 1 → Parts (getD (set xs i v) i 0) s o
+wrote-parts xs i v s o l e b = rw (getD-set-same xs i v 0 l) (record { size-is = omega arith; one-is = omega arith })
+
+pub leaf-note-range : {v : ℕ} (kind : ℕ) → v ≡ leafNote kind → (2 ≤ v) × (v ≤ 3)
+leaf-note-range kind e = (omega arith, omega (arith, bit-small (eqb kind 1)))
+
+-- an operator's record at here and its note at i: s and o are the parts of its left operand's note, at w the code reads the right one's
+module _ (xs : List ℕ) (i : ℕ) {s o w : ℕ} (parts : Parts (leftAt xs i) s o) (is-w : w ≡ s) where
+  right-is : getD xs (i + 1 + w) 0 ≡ rightAt xs i
+  right-is = same-at xs (omega (arith, parts .size-is))
+
+  pub right-in : TwoNotes xs i → i + 1 + w < length xs
+  right-in h = omega (arith, parts .size-is, h .right-in)
+
+  pub pair-fits : TwoNotes xs i → 2 * (s + getD xs (i + 1 + w) 0 / 2 + 1) + 1 < 2 ^ 32
+  pair-fits h = omega (arith, parts .size-is, right-is, h .small)
+
+  module _ (here : ℕ) {b : ℕ} (is-b : b ≡ pairOne (getD xs here 0) o (getD xs (i + 1 + w) 0 % 2)) where
+    pub pair-bit : b ≤ 1
+    pair-bit = omega (arith, is-b, bit-small (eqb (getD xs here 0) 11 && (eqb o 1 && eqb (getD xs (i + 1 + w) 0 % 2) 1)))
+
+    pub pair-noted : 7 ≤ getD xs here 0 → 2 * (s + getD xs (i + 1 + w) 0 / 2 + 1) + b ≡ noteAt xs here i
+    pair-noted k = rw (is-b, right-is, parts .size-is, parts .one-is, le-ltb (getD xs here 0) 7 k)
+
+-- an operator has an operand
+op-size : (c : Core) → 7 ≤ coreKind c → 2 ≤ size c
+op-size (leaf p) k = absurd (omega (arith, leaf-kind p))
+op-size (one o a) k = omega (arith, size-pos a)
+op-size (two o a b) k = omega (arith, size-pos a)
+
 -- ## A turn of the backward pass, at record j
 
 module _ {xs₀ xs : List ℕ} {notes : ℕ} (from n j : ℕ) (small : n < 2 ^ 30) (below : from + 3 * n ≤ notes) (room : notes + n ≤ length xs₀) (kept : Kept notes xs₀ xs) (l : j < n) where
@@ -119,11 +159,15 @@ module _ {xs₀ xs : List ℕ} {notes : ℕ} (from n j : ℕ) (small : n < 2 ^ 3
     after : Holds xs (notes + j + 1) (notesAll (operands (spot .core) ++ spot .others))
     after = moved done (omega arith) (ap (λ (fs : List Core). notesAll (opened fs)) (spot .is))
 
-    pub turn-can : CanNote xs (from + 3 * j) (notes + j)
-    turn-can = record {
+    inner : 7 ≤ coreKind (spot .core) → suc j < n
+    inner k = omega (arith, op-size (spot .core) k, ap sizeAll (spot .is), size-at j (t ∷ []), lies .count)
+
+    pub turn-can : {s o : ℕ} → (suc j < n → Parts (leftAt xs (notes + j)) s o) → CanNote xs (from + 3 * j) (notes + j) s o
+    turn-can last = record {
       here-in = omega (arith, kept .long);
       note-in = omega (arith, kept .long);
       operands-in = λ k. two-notes xs (notes + j) (spot .core) (spot .others) is-test (omega (arith, ap sizeAll (spot .is), size-at j (t ∷ []), lies .count)) (omega (arith, is-kind)) after;
+      parts = λ k. last (inner (omega (arith, is-kind)));
     }
 
     pub turn-notes : Holds (set xs (notes + j) (noteAt xs (from + 3 * j) (notes + j))) (notes + j) (notesAll (forestAt j (t ∷ [])))

@@ -1,15 +1,19 @@
 -- A turn as the code makes it: d is what is dropped and k how many records are written, both found in memory.
 use mathlib.Core.Path.{_≡_, sym, _∙_}
-use mathlib.Core.List.{List}
+use mathlib.Core.Logic.{_≢_}
+use mathlib.Core.Bool.{false}
+use mathlib.Core.List.{List, [], _∷_}
 use Prim.Native.Nat.{ℕ, suc, _+_, _*_, _-_, _≤_, _<_}
 use native.Mathlib.Omega.{arith}
+use lib.Dec.{eqb}
 use lib.ListN.{length, getD, set}
-use lib.Seq.{sets}
+use lib.Seq.{sets, getD-set-other, set-getD}
+use borrow.Author.Tests.{ne-eqb}
 use Rattle.expr.specs.Terms.{Core}
 use Rattle.desugar.specs.Memory.{Kept}
 use Rattle.desugar.specs.NegationOutcome.{Layout}
-use Rattle.desugar.specs.NegationRun.{coreKind, TwoNotes, dropAt, countOf, ownWords, leftCode, rightCode, Run, Stepped}
-use Rattle.desugar.proofs.Regions.{over, kept-sets}
+use Rattle.desugar.specs.NegationRun.{coreKind, TwoNotes, dropAt, countOf, newKind, newValue, ownWords, leftCode, rightCode, Run, Stepped}
+use Rattle.desugar.proofs.Regions.{sets-below, over, kept-sets}
 use Rattle.desugar.proofs.Emitted.{dropped, own, countIn}
 use Rattle.desugar.proofs.Turns.{count-small, Now, now, Found, found, over-limit, leaf-run, deep, pushed, pushed-kept, op-run}
 
@@ -92,3 +96,65 @@ module _ {xs : List ℕ} {t : Core} {at n notes modes out limit j top made : ℕ
           on = λ b. rw (both-is, k-is) (op-run lay l r in-limit op);
           over = λ b. absurd (omega arith);
         }
+
+  -- a turn in mode 0 at a kind below 9: nothing is dropped, one record is written, and the operands' modes are 0
+  module _ {kind : ℕ} (is-kind : kind ≡ getD xs (at + 3 * j) 0) (low : kind < 9) (negating : getD xs top 0 ≡ 0) where
+    no : (m : ℕ) → 9 ≤ m → eqb (getD xs (at + 3 * j) 0) m ≡ false
+    no m h = ne-eqb (getD xs (at + 3 * j) 0) m (omega arith)
+
+    none-dropped : 0 ≡ dropAt xs (notes + j) (getD xs top 0) (getD xs (at + 3 * j) 0)
+    none-dropped = rw negating
+
+    one-made : 1 ≡ countOf (getD xs top 0) (getD xs (at + 3 * j) 0) 0
+    one-made = rw (negating, no 9 (omega arith))
+
+    pub plain-stop : limit ≡ made → Stepped xs t at n notes modes out limit (j + 1) top (made + 1)
+    plain-stop h = stop none-dropped one-made (omega arith)
+
+    -- the memory after the record is written
+    abbrev pub plain : List ℕ
+    plain = sets xs (out + 3 * made) (newKind 0 kind ∷ getD xs (at + 3 * j + 1) 0 ∷ newValue 0 kind (getD xs (at + 3 * j + 2) 0) ∷ [])
+
+    plain-is : plain ≡ wrote none-dropped one-made
+    plain-is = rw (negating, is-kind)
+
+    pub plain-kept : Kept modes xs plain
+    plain-kept = rw plain-is (wrote-kept none-dropped one-made)
+
+    module _ (h : limit ≢ made) where
+      one-fits : 1 ≤ limit - made
+      one-fits = omega arith
+
+      pub plain-leaf : kind < 7 → Stepped plain t at n notes modes out limit (j + 1) (top + 1) (made + 1)
+      plain-leaf g = rw plain-is (leaf-turn none-dropped one-made one-fits (omega arith))
+
+      module _ (g : 7 ≤ kind) where
+        plain-op : 7 ≤ getD xs (at + 3 * j) 0
+        plain-op = omega arith
+
+        pub plain-deep : modes < top
+        plain-deep = deep-turn none-dropped one-made one-fits plain-op
+
+        -- the mode at top is 0 already
+        top-is : getD (set plain (top - 1) 0) top 0 ≡ 0
+        top-is =
+            getD-set-other plain (top - 1) top 0 0 (omega (arith, plain-deep))
+            ∙ sets-below xs (out + 3 * made) (newKind 0 kind ∷ getD xs (at + 3 * j + 1) 0 ∷ newValue 0 kind (getD xs (at + 3 * j + 2) 0) ∷ []) top (omega (arith, r .depth, lay .out-at))
+            ∙ negating
+
+        plain-both : set plain (top - 1) 0 ≡ both none-dropped one-made one-fits plain-op
+        plain-both =
+            sym (set-getD (set plain (top - 1) 0) top 0)
+            ∙ (λ i. set (set (plain-is i) (top - 1) (left-is i)) top ((top-is ∙ right-is) i))
+          where
+            left-is : 0 ≡ leftCode (getD xs top 0) (getD xs (at + 3 * j) 0) 0
+            left-is = rw (negating, no 9 (omega arith))
+
+            right-is : 0 ≡ rightCode (getD xs top 0) (getD xs (at + 3 * j) 0) 0
+            right-is = rw (negating, no 9 (omega arith), no 10 (omega arith))
+
+        pub plain-pushed : Kept modes xs (set plain (top - 1) 0)
+        plain-pushed = rw plain-both (both-kept none-dropped one-made one-fits plain-op)
+
+        pub plain-turned : Stepped (set plain (top - 1) 0) t at n notes modes out limit (j + 1) (top - 1) (made + 1)
+        plain-turned = rw plain-both (op-turn none-dropped one-made one-fits plain-op)

@@ -70,10 +70,14 @@ rightAt xs note = getD xs (note + 1 + leftAt xs note / 2) 0
 
 -- a record's note from its kind and the notes of its operands
 abbrev pub leafNote : ℕ → ℕ
-leafNote kind = cond (eqb kind 1) 3 2
+leafNote kind = 2 + bit (eqb kind 1)
+
+-- 1 for a Sequence whose two operands have 1
+abbrev pub pairOne : ℕ → ℕ → ℕ → ℕ
+pairOne kind l r = bit (eqb kind 11 && (eqb l 1 && eqb r 1))
 
 abbrev pub pairNote : ℕ → ℕ → ℕ → ℕ
-pairNote kind l r = 2 * (l / 2 + r / 2 + 1) + bit (eqb kind 11 && (eqb (l % 2) 1 && eqb (r % 2) 1))
+pairNote kind l r = 2 * (l / 2 + r / 2 + 1) + pairOne kind (l % 2) (r % 2)
 
 abbrev pub noteAt : List ℕ → ℕ → ℕ → ℕ
 noteAt xs here note = cond (ltb (getD xs here 0) 7) (leafNote (getD xs here 0)) (pairNote (getD xs here 0) (leftAt xs note) (rightAt xs note))
@@ -84,11 +88,17 @@ pub record TwoNotes (xs : List ℕ) (note : ℕ) : Type 0 where
   pub right-in : note + 1 + leftAt xs note / 2 < length xs
   pub small : leftAt xs note + rightAt xs note + 2 < 2 ^ 32
 
--- the record at index here can be noted at index note
-pub record CanNote (xs : List ℕ) (here note : ℕ) : Type 0 where
+-- a note's parts: the size, and 1 if the core is One when desugared again
+pub record Parts (note size one : ℕ) : Type 0 where
+  pub size-is : size ≡ note / 2
+  pub one-is : one ≡ note % 2
+
+-- the record at index here can be noted at index note, with the parts of its first operand's note
+pub record CanNote (xs : List ℕ) (here note size one : ℕ) : Type 0 where
   pub here-in : here < length xs
   pub note-in : note < length xs
   pub operands-in : 7 ≤ getD xs here 0 → TwoNotes xs note
+  pub parts : 7 ≤ getD xs here 0 → Parts (leftAt xs note) size one
 
 -- the test c lies at index at, and its notes at index notes
 pub record Noted (xs : List ℕ) (at n notes : ℕ) (c : Core) : Type 0 where

@@ -2,11 +2,11 @@
 ghost use mathlib.Core.Path.{_≡_};
 ghost use mathlib.Core.Bool.{true};
 ghost use Prim.Native.Nat.{_+_, _*_, _^_, _≤_, _<_};
-ghost use lib.ListN.{length, set};
+ghost use lib.ListN.{length, getD, set};
 ghost use Rattle.expr.specs.Terms.{Core};
 ghost use Rattle.desugar.specs.Memory.{Holds, Kept, Lies};
 ghost use Rattle.desugar.specs.Negation.{isTest};
-ghost use Rattle.desugar.specs.NegationRun.{notesOf, leafNote, pairNote, noteAt, rightAt, TwoNotes, CanNote};
+ghost use Rattle.desugar.specs.NegationRun.{notesOf, leafNote, pairOne, noteAt, rightAt, TwoNotes, Parts, CanNote};
 use crate::memory::wide;
 
 // The note of the second operand of the record whose note stands at `note`.
@@ -18,6 +18,12 @@ pub(crate) fn right_note(work: &[u32], note: usize) -> u32
     work[note + 1 + skip]
 }
 
+// Of the core that was noted last: how many records it has, and 1 if it is One when desugared again.
+pub struct Last {
+    pub size: u32,
+    pub one: u32,
+}
+
 fn leaf_note(kind: u32) -> u32
     ensures { λ r. ⌜ r ≡ leafNote kind ⌝ }
 {
@@ -27,37 +33,38 @@ fn leaf_note(kind: u32) -> u32
     2
 }
 
-// The note of an operator from the notes of its two operands.
-fn pair_note(kind: u32, left: u32, right: u32) -> u32
-    requires { ⌜ left + right + 2 < 2 ^ 32 ⌝ }
-    ensures { λ r. ⌜ r ≡ pairNote kind left right ⌝ }
+// 1 if an operator of this kind is One when desugared again; left and right are 1 if its operands are.
+fn pair_one(kind: u32, left: u32, right: u32) -> u32
+    requires { ⌜ (left ≤ 1) × (right ≤ 1) ⌝ }
+    ensures { λ r. ⌜ r ≡ pairOne kind left right ⌝ }
 {
-    let size = 2 * (left / 2 + right / 2 + 1);
     if kind != 11 {
-        return size;
+        return 0;
     }
-    if left % 2 == 0 {
-        return size;
-    }
-    if right % 2 == 0 {
-        return size;
-    }
-    size + 1
+    left * right
 }
 
-// Notes the record at `here`; the notes of its operands stand above `note`.
-fn note_record(work: &mut [u32], here: usize, note: usize)
-    requires { ⌜ CanNote (now work) here note ⌝ }
+// Notes the record at `here`; the notes of its operands stand above `note`. The first operand's is the last that was noted: its parts are
+// handed over, so that no turn waits for a note to be read back and taken apart.
+fn note_record(work: &mut [u32], here: usize, note: usize, last: Last) -> Last
+    requires { ⌜ CanNote (now work) here note (last .size) (last .one) ⌝ }
     ensures { λ _. ⌜ now (work .exit) ≡ set (now (work .entry)) note (noteAt (now (work .entry)) here note) ⌝ }
+    ensures { λ r. ⌜ Parts (getD (now (work .exit)) note 0) (r .size) (r .one) ⌝ }
 {
     let kind = work[here];
     if kind < 7 {
-        work[note] = leaf_note(kind);
-        return;
+        let own = leaf_note(kind);
+        work[note] = own;
+        return Last {
+            size: 1,
+            one: own - 2,
+        };
     }
-    let right = right_note(work, note);
-    let left = work[note + 1];
-    work[note] = pair_note(kind, left, right);
+    let right = work[note + 1 + wide(last.size)];
+    let size = last.size + right / 2 + 1;
+    let one = pair_one(kind, last.one, right % 2);
+    work[note] = 2 * size + one;
+    Last { size, one }
 }
 
 // Notes each of the n records of the test at `at`, from `notes` on.
@@ -67,9 +74,10 @@ pub(crate) fn measure(work: &mut [u32], at: usize, n: usize, notes: usize)
     ensures { λ _. ⌜ Kept notes (now (work .entry)) (now (work .exit)) ⌝ }
     ensures { λ _. ⌜ ((c : Core) → Lies (now (work .entry)) at n c → isTest c ≡ true → Holds (now (work .exit)) notes (notesOf c)) ⌝ }
 {
+    let mut last = Last { size: 0, one: 0 };
     let mut j = n;
     while 0 < j {
         j -= 1;
-        note_record(work, at + 3 * j, notes + j);
+        last = note_record(work, at + 3 * j, notes + j, last);
     }
 }

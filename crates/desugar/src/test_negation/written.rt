@@ -47,7 +47,7 @@ pub(crate) fn count(mode: u32, kind: u32, drop: u32) -> usize
 }
 
 // The kind of the record that is written for a record of this kind.
-fn new_kind(mode: u32, kind: u32) -> u32
+pub(crate) fn new_kind(mode: u32, kind: u32) -> u32
     ensures { λ r. ⌜ r ≡ newKind mode kind ⌝ }
 {
     if mode != 0 {
@@ -62,7 +62,7 @@ fn new_kind(mode: u32, kind: u32) -> u32
     }
 }
 
-fn new_value(mode: u32, kind: u32, value: u32) -> u32
+pub(crate) fn new_value(mode: u32, kind: u32, value: u32) -> u32
     requires { ⌜ value ≤ 1 ⌝ }
     ensures { λ r. ⌜ r ≡ newValue mode kind value ⌝ }
 {
