@@ -2,7 +2,7 @@
 use mathlib.Core.Path.{_≡_, sym, ap, subst, _∙_}
 use mathlib.Core.Bool.{Bool}
 use mathlib.Core.List.{List, [], _∷_, append-nil}
-use Prim.Native.Nat.{ℕ, _+_, _-_, _≤_}
+use Prim.Native.Nat.{ℕ, _+_, _-_, _*_, _≤_}
 use native.Mathlib.Omega.{arith}
 use lib.ListN.{length}
 use Rattle.expr.specs.Answers.{Answer, andThen, ok}
@@ -13,13 +13,14 @@ use Rattle.expr.specs.Terms.{Expr, records, size}
 use Rattle.expr.specs.declared.records.Head.{Head}
 use Rattle.expr.proofs.FormTheorem.{decode-only}
 use Rattle.expr.proofs.HeadOf.{Headed}
+use Rattle.expr.proofs.Replacing.{short}
 use Rattle.expr.proofs.Slices.{Sliced, bytes-each}
 use Rattle.desugar.specs.Bindings.{Env}
 use Rattle.desugar.specs.BindingWords.{Bound}
 use Rattle.desugar.proofs.Regions.{kept-all}
 use Rattle.desugar.proofs.Dispatch.{alone, kind-low, levels-left, one-kid, two-kids, three-kids}
 use Rattle.netkat.specs.Check.{check, checkBytes}
-use Rattle.netkat.specs.CheckWords.{checkWalk, flags, Frames, CheckReady, CheckOne, CheckTwo, CheckThree, SortReady, CheckedAs}
+use Rattle.netkat.specs.CheckWords.{checkWalk, flags, Frames, CheckReady, CheckRoom, CheckOne, CheckTwo, CheckThree, SortReady, CheckedAs}
 use Rattle.netkat.specs.declared.check.Walked.{Walked}
 use Rattle.netkat.proofs.CheckWalk.{check-is-walk}
 use Rattle.netkat.proofs.CheckLaws.{frames-moved}
@@ -98,23 +99,34 @@ module _ {s xs : List ℕ} {levels last top : ℕ} (place : ℕ) (q : CheckReady
 
 -- ## A whole term
 
-module _ (s : List ℕ) (e : Expr) (h : decode s ≡ ok e) where
-  abbrev pub whole-ready : {xs : List ℕ} {last : ℕ} → Sliced s → last ≡ 0 → length xs ≡ 2048 → CheckReady s maxDepth 0 last 0 xs
-  whole-ready b none long =
-      let d = decode-only s e (bytes-each s b) h in
+module _ {s : List ℕ} {levels : ℕ} {xs : List ℕ} (q : CheckRoom s levels xs) where
+  abbrev pub whole-ready : {last : ℕ} → Sliced s → last ≡ 0 → CheckReady s levels 0 last 0 xs
+  whole-ready b none =
+      let d = decode-only s (q .term) (bytes-each s b) (q .reads) in
       record {
-        term = e;
+        term = q .term;
         env = [];
         text =
             record {
               more = [];
-              bytes = d .1 ∙ sym (append-nil (encode e));
+              bytes = d .1 ∙ sym (append-nil (encode (q .term)));
               fits = d .0 .fits;
-              deep = d .0 .deep;
+              deep = q .deep;
               low = omega (arith, d .0 .count);
             };
-        frames = record { bound = none; below = omega (arith, none); room = omega (arith, long); small = omega arith };
+        frames = record { bound = none; below = omega (arith, none); room = omega (arith, q .room); small = omega (arith, q .few) };
       }
 
-  pub whole-is : checkWalk [] e 0 ≡ checkBytes s
-  whole-is = check-is-walk [] e 0 ∙ sym (ap (λ (x : Answer Expr). andThen x (λ e. check [] e 0)) h)
+  pub whole-is : checkWalk [] (q .term) 0 ≡ checkBytes s
+  whole-is = check-is-walk [] (q .term) 0 ∙ sym (ap (λ (x : Answer Expr). andThen x (λ e. check [] e 0)) (q .reads))
+
+-- a term has no more levels than bytes
+module _ (s : List ℕ) (e : Expr) (h : decode s ≡ ok e) (b : Sliced s) where
+  pub short-room : {n : ℕ} {xs : List ℕ} → length s ≤ n → n ≤ maxDepth → 8 * n ≤ length xs → CheckRoom s n xs
+  short-room few deep room =
+      let d = decode-only s e (bytes-each s b) h in
+      let small = short e in
+      record { term = e; reads = h; deep = omega (arith, few, ap length (d .1), small .0, small .1); few = deep; room = room }
+
+  pub long-room : {xs : List ℕ} → 8 * maxDepth ≤ length xs → CheckRoom s maxDepth xs
+  long-room room = record { term = e; reads = h; deep = decode-only s e (bytes-each s b) h .0 .deep; few = omega arith; room = room }

@@ -2,7 +2,7 @@
 use mathlib.Core.{Path._≡_, Bool.Bool, Bool.true, Bool.false, Bool._&&_, Bool._||_, List.List, List.[], List._∷_}
 use Prim.Native.Nat.{ℕ, _+_, _*_, _^_, _≤_, _<_}
 use lib.{Dec.eqb, ListN.length}
-use Rattle.expr.specs.{Answers.Answer, Answers.ok, Answers.refuse, Answers.andThen, Answers.need, Terms.Zero, Terms.Top, Terms.Core, Terms.leaf, Terms.Expr, Terms.Plain, Terms.Unary, Terms.Binary, Terms.TestNegation, Terms.IfThenElse, Terms.Let, Terms.LetBitRange, Terms.Var, Terms.Ranged, Terms.atomKind, Terms.op2Kind, Terms.testKind, Terms.records, Operations.isTestUse, Results.HeadInside}
+use Rattle.expr.specs.{Answers.Answer, Answers.ok, Answers.refuse, Answers.andThen, Answers.need, Terms.Zero, Terms.Top, Terms.Core, Terms.leaf, Terms.Expr, Terms.Plain, Terms.Unary, Terms.Binary, Terms.TestNegation, Terms.IfThenElse, Terms.Let, Terms.LetBitRange, Terms.Var, Terms.Ranged, Terms.atomKind, Terms.op2Kind, Terms.testKind, Terms.records, Terms.depth, Form.decode, Form.maxDepth, Operations.isTestUse, Results.HeadInside}
 use Rattle.expr.specs.declared.records.Head.{Head}
 use Rattle.expr.specs.declared.records.HeadRead.the-variants as head
 use Rattle.desugar.specs.{Bindings.Env, Bindings.variable, Bindings.range, Bindings.lookupVariable, Bindings.lookupAlias, Bindings.findRange, Rules.knownRange, Rules.boundVariable, Rules.rangeRule, Memory.Kept, BindingWords.Bound, WalkWords.TermAt, WalkWords.TermsAt}
@@ -80,6 +80,14 @@ pub record CheckReady (s : List ℕ) (levels place last top : ℕ) (xs : List �
   pub env : Env Bool
   pub text : TermAt s levels place term
   pub frames : Frames xs last top levels env
+
+-- of a whole term: it has good form and at most so many levels, and their bindings have room
+pub record CheckRoom (s : List ℕ) (levels : ℕ) (xs : List ℕ) : Type 0 where
+  pub term : Expr
+  pub reads : decode s ≡ ok term
+  pub deep : depth term ≤ levels
+  pub few : levels ≤ maxDepth
+  pub room : 8 * levels ≤ length xs
 
 -- of a term's children, behind its record, which has the index place
 pub record CheckOne (s : List ℕ) (from levels place last top : ℕ) (xs : List ℕ) : Type 0 where

@@ -17,7 +17,7 @@ ghost use Rattle.desugar.specs.BindingWords.{AnyBound, Bound};
 ghost use Rattle.desugar.specs.WalkWords.{Operator1, Operator2, whereOf, useOf};
 ghost use Rattle.desugar.specs.RangedWords.{RangeReady};
 ghost use Rattle.netkat.specs.Check.{checkBytes};
-ghost use Rattle.netkat.specs.CheckWords.{checkWalk, flags, sortKind, CheckReady, CheckOne, CheckTwo, CheckThree, CheckedAs, SortReady, checkedAnswer};
+ghost use Rattle.netkat.specs.CheckWords.{checkWalk, flags, sortKind, CheckReady, CheckOne, CheckTwo, CheckThree, CheckedAs, CheckRoom, SortReady, checkedAnswer};
 use desugar::bindings::Alias;
 use desugar::bindings::Bindings;
 use desugar::bindings::Variable;
@@ -30,6 +30,11 @@ use expr::records::HeadRead;
 
 // The numbers that the bindings may take: 8 for each of 256 levels, three for whether a variable is a test and five for its frame.
 const WORK: usize = 2048;
+
+// The bytes of a short term, and the numbers that its bindings may take.
+const SHORT: usize = 32;
+
+const SHORT_WORK: usize = 256;
 
 // Whether a term is a test, or the first rule that fails and its place.
 pub enum Checked {
@@ -358,16 +363,28 @@ fn let_bit_range(
     })
 }
 
-// Check of a term of good form.
+// Check of a term of good form and of at most `levels` levels.
+fn check_within(term: &[u8], levels: usize, work: &mut [u32]) -> Checked
+    requires { ⌜ CheckRoom (now term) levels (now work) ⌝ }
+    ensures { λ r. ⌜ checkedAnswer r ≡ checkBytes (now (term .entry)) ⌝ }
+{
+    match check_with_env(term, levels, 0, Bindings::none(), work, 0) {
+        Walked::Refused(number, place) => Checked::Refused(number, place),
+        Walked::Done(sorted) => Checked::Test(sorted.test),
+    }
+}
+
+// Check of a term of good form. A short one has no more levels than bytes, and there is less to clear for it.
 fn check_term(term: &[u8]) -> Checked
     requires { ⌜ Term (now term) ⌝ }
     ensures { λ r. ⌜ checkedAnswer r ≡ checkBytes (now (term .entry)) ⌝ }
 {
-    let mut work = [0u32; WORK];
-    match check_with_env(term, MAX_DEPTH, 0, Bindings::none(), &mut work, 0) {
-        Walked::Refused(number, place) => Checked::Refused(number, place),
-        Walked::Done(sorted) => Checked::Test(sorted.test),
+    if term.len() <= SHORT {
+        let mut few = [0u32; SHORT_WORK];
+        return check_within(term, SHORT, &mut few);
     }
+    let mut work = [0u32; WORK];
+    check_within(term, MAX_DEPTH, &mut work)
 }
 
 // Whether a term is a test, where its form is good and the rules 11 to 23 hold.
