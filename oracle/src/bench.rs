@@ -125,9 +125,9 @@ pub fn run(folder: &str) -> bool {
     println!("original: bytes to tree, desugar, tree to bytes. bare: its desugar on a built tree. copy: 12 bytes for each core node.\n");
     println!(
         "| policy | term bytes | core bytes | nodes | drawn | port | original | bare | check | copy | port / original | port / bare | \
-         check / port |"
+         port / copy | check / port |"
     );
-    println!("|{}", "---|".repeat(13));
+    println!("|{}", "---|".repeat(14));
     for (name, term) in load(folder) {
         let p = prepare(name, term, &mut b);
         let all = rounds(&p, &mut b);
@@ -139,9 +139,11 @@ pub fn run(folder: &str) -> bool {
             let [low, median, high] = quartiles(all.iter().map(|t| t[what] / t[over]).collect());
             format!("{median:.3} ({low:.3} to {high:.3})")
         };
-        let copy = if p.nodes >= MANY_NODES { time(COPY) } else { "-".into() };
+        let large = p.nodes >= MANY_NODES;
+        let copy = if large { time(COPY) } else { "-".into() };
+        let copies = if large { ratio(PORT, COPY) } else { "-".into() };
         println!(
-            "| {} | {} | {} | {} | {} | {} | {} | {} | {} | {copy} | {} | {} | {} |",
+            "| {} | {} | {} | {} | {} | {} | {} | {} | {} | {copy} | {} | {} | {copies} | {} |",
             p.name, p.term.len(), p.core_len, p.nodes, p.drawn, time(PORT), time(ORIGINAL), time(BARE), time(CHECK),
             ratio(PORT, ORIGINAL), ratio(PORT, BARE), ratio(CHECK, PORT)
         );

@@ -59,11 +59,11 @@ fn access_list(count: u32) -> Node {
             let source = prefix(SRC, 0x0a00_0000 | r.below(1 << 24) as u32, 16 + r.below(9) as u8);
             let network = 0xc0a8_0000 | (r.below(256) as u32) << 8;
             let destination = match i % 10 {
-                0 => range(DST, 32, network + 1 + r.below(20) as u32, network + 100 + r.below(100) as u32),
+                9 => range(DST, 32, network + 1 + r.below(20) as u32, network + 100 + r.below(100) as u32),
                 _ => prefix(DST, network, 24),
             };
             let port = match i % 8 {
-                0 => range(PORT, 16, 1024 * (1 + r.below(8) as u32), 32767 + 1024 * r.below(8) as u32),
+                7 => range(PORT, 16, 1024 * (1 + r.below(8) as u32), 32767 + 1024 * r.below(8) as u32),
                 _ => port_is(*r.pick(&[22, 53, 80, 123, 443, 3306, 5432, 8080])),
             };
             two(INTERSECT, source, two(INTERSECT, destination, port))
@@ -77,7 +77,7 @@ fn first_match(count: u32) -> Node {
     let mut r = Rng::new(2);
     let mut rest = node(ZERO, vec![]);
     for i in (0..count).rev() {
-        let service = if i % 8 == 0 { range(PORT, 16, 8000, 8000 + r.below(1000) as u32) } else { port_is(r.below(10_000) as u32) };
+        let service = if i % 8 == 7 { range(PORT, 16, 8000, 8000 + r.below(1000) as u32) } else { port_is(r.below(10_000) as u32) };
         let network = 0x0a00_0000 | (r.below(1 << 16) as u32) << 8;
         let condition = two(INTERSECT, prefix(if i % 2 == 0 { SRC } else { DST }, network, 24), service);
         let action = if i % 3 == 0 { node(ZERO, vec![]) } else { send_to(i % 256) };
@@ -123,10 +123,10 @@ pub fn all() -> Vec<(String, Vec<u8>)> {
 pub fn growing() -> Vec<(String, Vec<u8>)> {
     let mut all = Vec::new();
     let mut add = |family: &str, size: u32, tree: Node| all.push((format!("{family}-{size}"), encoded(&tree)));
-    for n in [3, 6, 13, 26, 52, 104, 190] {
+    for n in [6, 12, 24, 48, 96, 192] {
         add("access_list", n, access_list(n));
     }
-    for n in [4, 8, 15, 30, 60, 120, 225] {
+    for n in [4, 8, 16, 32, 64, 128, 225] {
         add("first_match", n, first_match(n));
     }
     for n in [3, 6, 12, 24, 48, 96, 118] {
