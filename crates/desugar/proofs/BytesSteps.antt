@@ -89,11 +89,12 @@ module _ {bs : List ℕ} {n : ℕ} {xs : List ℕ} (g : Granted bs n xs) (bytes 
       rw (within (g .limits), below (g .limits), le-leb (workFor n) (length xs) (g .room), g .form .reads) h
 
   -- the whole term, under no bindings, in the whole of work memory
-  pub whole-ready : {last : ℕ} → last ≡ 0 → Ready bs maxDepth 0 last 0 n xs
+  pub whole-ready : {last : ℕ} → last ≡ 0 → Ready bs 0 maxDepth 0 last 0 n xs
   whole-ready {last} h =
       record {
         term = e;
         env = [];
+        start = omega arith;
         text =
             record {
               more = [];
@@ -113,16 +114,16 @@ module _ {bs : List ℕ} {n : ℕ} {xs : List ℕ} (g : Granted bs n xs) (bytes 
 
   -- the walk came to the term's core
   abbrev pub CameWhole : List ℕ → Went → Type 0
-  CameWhole xs′ w = Came (desugar [] e 0 (left n)) (length (encode e)) (0 + records e) 0 n maxDepth xs xs′ w
+  CameWhole xs′ w = Came (desugar [] e 0 (left n)) (0 + length (encode e)) (0 + records e) 0 n maxDepth xs xs′ w
 
   -- what the walk promises of its outcome
   abbrev Walks : ℕ → List ℕ → Walked → Type 0
   Walks last xs′ r =
-      (q : Ready bs maxDepth 0 last 0 n xs)
-      → WalkedAs (desugar (q .env) (q .term) 0 (left n)) (length (encode (q .term))) (0 + records (q .term)) 0 n maxDepth xs xs′ r
+      (q : Ready bs 0 maxDepth 0 last 0 n xs)
+      → WalkedAs (desugar (q .env) (q .term) 0 (left n)) (0 + length (encode (q .term))) (0 + records (q .term)) 0 n maxDepth xs xs′ r
 
   abbrev Outcome : List ℕ → Walked → Type 0
-  Outcome xs′ r = WalkedAs (desugar [] e 0 (left n)) (length (encode e)) (0 + records e) 0 n maxDepth xs xs′ r
+  Outcome xs′ r = WalkedAs (desugar [] e 0 (left n)) (0 + length (encode e)) (0 + records e) 0 n maxDepth xs xs′ r
 
   outcome : {last : ℕ} (xs′ : List ℕ) (r : Walked) → last ≡ 0 → Walks last xs′ r → Outcome xs′ r
   unfolding whole-ready

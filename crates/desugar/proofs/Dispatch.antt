@@ -4,7 +4,8 @@ use mathlib.Core.Logic.{_⊎_, inl, inr}
 use mathlib.Core.List.{List, [], _∷_}
 use Prim.Native.Nat.{ℕ, zero, suc, _+_, _-_, _≤_, _<_}
 use native.Mathlib.Omega.{arith}
-use lib.ListN.{length, getD, length-append}
+use lib.ListN.{length, getD, drop, length-append, length-drop}
+use lib.Seq.{drop-drop}
 use Rattle.expr.specs.Terms.{Zero, Op1, Complement, Star, LtlNext, Op2, Union, Intersect, Xor, Difference, Sequence, LtlUntil, Core, Expr, Plain, Unary, Binary, op1Kind, op2Kind, records}
 use Rattle.expr.specs.Records.{Record}
 use Rattle.expr.specs.Form.{Node, node0, node1, node2, node3, nodes, nodeOf, encode}
@@ -16,6 +17,7 @@ use Rattle.expr.proofs.NodeForm.{Fill, fill0, fill1, fill2, fill3, own-node}
 use Rattle.expr.proofs.Arities.{arity-is, arity-in, arity-past}
 use Rattle.expr.proofs.HeadOf.{Headed}
 use Rattle.expr.proofs.Replacing.{length-is}
+use Rattle.expr.proofs.Slices.{part, part-is}
 use Rattle.desugar.specs.Bindings.{Env}
 use Rattle.desugar.specs.Meter.{left}
 use Rattle.desugar.specs.Desugar.{desugar}
@@ -23,7 +25,7 @@ use Rattle.desugar.specs.BindingWords.{Bound}
 use Rattle.desugar.specs.WalkWords.{TermAt, TermsAt, Stack, WalkedAs, Ready, ReadyOne, ReadyTwo, ReadyThree, Operator1, Operator2, LeafReady}
 use Rattle.desugar.specs.declared.went.Walked.{Walked}
 use Rattle.desugar.proofs.Regions.{kept-all}
-use Rattle.desugar.proofs.WalkLaws.{stack-moved, wider}
+use Rattle.desugar.proofs.WalkLaws.{in-part, stack-moved, wider}
 
 -- ## The node of a record, by its kind
 
@@ -156,21 +158,41 @@ module _ {s : List ℕ} {levels place : ℕ} (e : Expr) (t : TermAt s levels pla
 
 -- ## The walk over it
 
-module _ {s xs : List ℕ} {levels last top a : ℕ} (place : ℕ) (q : Ready s levels place last top a xs) {h : Head} (k : Headed s (q .term) (q .text .more) h) where
+-- the terms behind a record of what `&s[at..]` holds are behind it in the whole
+from-part : {s : List ℕ} {at n l place : ℕ} {es : List Expr} → at ≤ length s → TermsAt (part at s) n l place es → TermsAt s (at + n) l place es
+from-part {s} {at} {n} h t =
+    record {
+      more = t .more;
+      start = omega (arith, h, t .start, ap length (part-is at s), length-drop at s);
+      bytes = sym (drop-drop n at s) ∙ ap (drop n) (sym (part-is at s)) ∙ t .bytes;
+      fits = t .fits;
+      deep = t .deep;
+      low = t .low;
+    }
+
+module _ {s xs : List ℕ} {at levels last top a : ℕ} (place : ℕ) (q : Ready s at levels place last top a xs) {h : Head}
+    (k : Headed (part at s) (q .term) (q .text .more) h) where
   abbrev pub node : Node
-  node = nodeOf (recordOf s h)
+  node = nodeOf (recordOf (part at s) h)
 
   abbrev e : Expr
   e = q .term
 
+  abbrev text : TermAt (part at s) levels place e
+  text = in-part s at (q .text)
+
   pub some-left : 1 ≤ levels
-  some-left = levels-left e (q .text) k
+  some-left = levels-left e text k
+
+  pub record-inside : at + h .size ≤ length s
+  record-inside = omega (arith, q .start, k .inside, ap length (part-is at s), length-drop at s)
 
   pub kids-stack : Stack xs last top a (levels - 1 + 1) (q .env)
   kids-stack = stack-moved (q .stack) (kept-all last xs) (omega arith) (q .stack .below) (omega (arith, some-left))
 
+  -- what is told, with bytes counted from the term's first
   abbrev Told : ℕ → List ℕ → Walked → Expr → ℕ → ℕ → Type 0
-  Told l ys r e used next = WalkedAs (desugar (q .env) e place (left a)) used next top a l xs ys r
+  Told l ys r e used next = WalkedAs (desugar (q .env) e place (left a)) (at + used) next top a l xs ys r
 
   abbrev Term : List ℕ → Walked → Type 0
   Term ys r = Told levels ys r e (length (encode e)) (place + records e)
@@ -178,52 +200,64 @@ module _ {s xs : List ℕ} {levels last top a : ℕ} (place : ℕ) (q : Ready s 
   deeper : (ys : List ℕ) (r : Walked) → Told (levels - 1 + 1) ys r e (length (encode e)) (place + records e) → Term ys r
   deeper ys r = subst (λ l. Told l ys r e (length (encode e)) (place + records e)) (omega (arith, some-left))
 
-  pub one-asked : {f : Expr → Expr} → node ≡ node1 f → ReadyOne s (h .size) (levels - 1) place last top a xs
-  one-asked n =
-      one-kid e (q .text) k (λ _ _ _. ReadyOne s (h .size) (levels - 1) place last top a xs) n
-      (λ b t. record { first = b; env = q .env; text = t; stack = kids-stack })
+  -- bytes that are counted from the front, counted from the term's first
+  counted : (f : Expr) (ys : List ℕ) (r : Walked) (u next : ℕ)
+      → WalkedAs (desugar (q .env) f place (left a)) (at + h .size + u) next top a (levels - 1 + 1) xs ys r → Told (levels - 1 + 1) ys r f (h .size + u) next
+  counted f ys r u next = subst (λ n. WalkedAs (desugar (q .env) f place (left a)) n next top a (levels - 1 + 1) xs ys r) (omega arith)
 
-  pub two-asked : {f : Expr → Expr → Expr} → node ≡ node2 f → ReadyTwo s (h .size) (levels - 1) place last top a xs
-  two-asked n =
-      two-kids e (q .text) k (λ _ _ _. ReadyTwo s (h .size) (levels - 1) place last top a xs) n
-      (λ b c t. record { first = b; second = c; env = q .env; text = t; stack = kids-stack })
+  abbrev one-ready : (b : Expr) → TermsAt (part at s) (h .size) (levels - 1) (place + 1) (b ∷ []) → ReadyOne s (at + h .size) (levels - 1) place last top a xs
+  one-ready b t = record { first = b; env = q .env; text = from-part (q .start) t; stack = kids-stack }
 
-  pub three-asked : {f : Expr → Expr → Expr → Expr} → node ≡ node3 f → ReadyThree s (h .size) (levels - 1) place last top a xs
-  three-asked n =
-      three-kids e (q .text) k (λ _ _ _. ReadyThree s (h .size) (levels - 1) place last top a xs) n
-      (λ b c d t. record { first = b; second = c; third = d; env = q .env; text = t; stack = kids-stack })
+  abbrev two-ready : (b c : Expr) → TermsAt (part at s) (h .size) (levels - 1) (place + 1) (b ∷ c ∷ []) → ReadyTwo s (at + h .size) (levels - 1) place last top a xs
+  two-ready b c t = record { first = b; second = c; env = q .env; text = from-part (q .start) t; stack = kids-stack }
+
+  abbrev three-ready : (b c d : Expr) → TermsAt (part at s) (h .size) (levels - 1) (place + 1) (b ∷ c ∷ d ∷ [])
+      → ReadyThree s (at + h .size) (levels - 1) place last top a xs
+  three-ready b c d t = record { first = b; second = c; third = d; env = q .env; text = from-part (q .start) t; stack = kids-stack }
+
+  pub one-asked : {f : Expr → Expr} → node ≡ node1 f → ReadyOne s (at + h .size) (levels - 1) place last top a xs
+  one-asked n = one-kid e text k (λ _ _ _. ReadyOne s (at + h .size) (levels - 1) place last top a xs) n one-ready
+
+  pub two-asked : {f : Expr → Expr → Expr} → node ≡ node2 f → ReadyTwo s (at + h .size) (levels - 1) place last top a xs
+  two-asked n = two-kids e text k (λ _ _ _. ReadyTwo s (at + h .size) (levels - 1) place last top a xs) n two-ready
+
+  pub three-asked : {f : Expr → Expr → Expr → Expr} → node ≡ node3 f → ReadyThree s (at + h .size) (levels - 1) place last top a xs
+  three-asked n = three-kids e text k (λ _ _ _. ReadyThree s (at + h .size) (levels - 1) place last top a xs) n three-ready
 
   pub one-done : {f : Expr → Expr} (ys : List ℕ) (r : Walked) → node ≡ node1 f
-      → ((p : ReadyOne s (h .size) (levels - 1) place last top a xs)
-      → WalkedAs (desugar (p .env) (f (p .first)) place (left a)) (h .size + length (encode (p .first))) (place + 1 + records (p .first)) top a (levels - 1 + 1) xs ys r)
+      → ((p : ReadyOne s (at + h .size) (levels - 1) place last top a xs)
+      → WalkedAs (desugar (p .env) (f (p .first)) place (left a)) (at + h .size + length (encode (p .first))) (place + 1 + records (p .first)) top a (levels - 1 + 1) xs ys r)
       → Term ys r
-  one-done ys r n v =
-      deeper ys r (one-kid e (q .text) k (Told (levels - 1 + 1) ys r) n (λ b t. v (record { first = b; env = q .env; text = t; stack = kids-stack })))
+  one-done {f} ys r n v =
+      deeper ys r (one-kid e text k (Told (levels - 1 + 1) ys r) n (λ b t.
+      counted (f b) ys r (length (encode b)) (place + 1 + records b) (v (one-ready b t))))
 
   pub two-done : {f : Expr → Expr → Expr} (ys : List ℕ) (r : Walked) → node ≡ node2 f
-      → ((p : ReadyTwo s (h .size) (levels - 1) place last top a xs)
-      → WalkedAs (desugar (p .env) (f (p .first) (p .second)) place (left a)) (h .size + length (encodeAll (p .first ∷ p .second ∷ [])))
+      → ((p : ReadyTwo s (at + h .size) (levels - 1) place last top a xs)
+      → WalkedAs (desugar (p .env) (f (p .first) (p .second)) place (left a)) (at + h .size + length (encodeAll (p .first ∷ p .second ∷ [])))
       (place + 1 + records (p .first) + records (p .second)) top a (levels - 1 + 1) xs ys r)
       → Term ys r
-  two-done ys r n v =
-      deeper ys r (two-kids e (q .text) k (Told (levels - 1 + 1) ys r) n (λ b c t. v (record { first = b; second = c; env = q .env; text = t; stack = kids-stack })))
+  two-done {f} ys r n v =
+      deeper ys r (two-kids e text k (Told (levels - 1 + 1) ys r) n (λ b c t.
+      counted (f b c) ys r (length (encodeAll (b ∷ c ∷ []))) (place + 1 + records b + records c) (v (two-ready b c t))))
 
   pub three-done : {f : Expr → Expr → Expr → Expr} (ys : List ℕ) (r : Walked) → node ≡ node3 f
-      → ((p : ReadyThree s (h .size) (levels - 1) place last top a xs)
+      → ((p : ReadyThree s (at + h .size) (levels - 1) place last top a xs)
       → WalkedAs (desugar (p .env) (f (p .first) (p .second) (p .third)) place (left a))
-      (h .size + length (encodeAll (p .first ∷ p .second ∷ p .third ∷ [])))
+      (at + h .size + length (encodeAll (p .first ∷ p .second ∷ p .third ∷ [])))
       (place + 1 + records (p .first) + records (p .second) + records (p .third)) top a (levels - 1 + 1) xs ys r)
       → Term ys r
-  three-done ys r n v =
-      deeper ys r (three-kids e (q .text) k (Told (levels - 1 + 1) ys r) n (λ b c d t. v (record { first = b; second = c; third = d; env = q .env; text = t; stack = kids-stack })))
+  three-done {f} ys r n v =
+      deeper ys r (three-kids e text k (Told (levels - 1 + 1) ys r) n (λ b c d t.
+      counted (f b c d) ys r (length (encodeAll (b ∷ c ∷ d ∷ []))) (place + 1 + records b + records c + records d) (v (three-ready b c d t))))
 
   -- ## A leaf
 
-  pub leaf-ready : LeafReady s h place last top a xs
+  pub leaf-ready : LeafReady (part at s) h place last top a xs
   leaf-ready =
       record {
         inside = k .found;
-        kind = kind-low e (q .text) k;
+        kind = kind-low e text k;
         low = omega (arith, records-is e, q .text .low);
         env = q .env;
         bound = q .stack .bound;
@@ -234,10 +268,10 @@ module _ {s xs : List ℕ} {levels last top a : ℕ} (place : ℕ) (q : Ready s 
 
   pub leaf-done : (ys : List ℕ) (r : Walked) → 0 ≡ arityOf (h .kind)
       → ((e : Expr) (env : Env Core) → node ≡ node0 e → Bound xs last env
-      → WalkedAs (desugar env e place (left a)) (h .size) (place + 1) top a 0 xs ys r)
+      → WalkedAs (desugar env e place (left a)) (at + h .size) (place + 1) top a 0 xs ys r)
       → Term ys r
   leaf-done ys r none v =
-      let f = alone e (q .text) k none in
-      wider (desugar (q .env) e place (left a)) (desugar (q .env) e place (left a)) (length (encode e)) (h .size) (place + records e) (place + 1) top top a a levels 0 xs xs ys r
-      refl (f .1) (omega (arith, f .2)) (omega arith) (omega arith) (omega arith) (kept-all top xs)
+      let f = alone e text k none in
+      wider (desugar (q .env) e place (left a)) (desugar (q .env) e place (left a)) (at + length (encode e)) (at + h .size) (place + records e) (place + 1) top top a a levels 0 xs xs ys r
+      refl (ap (λ n. at + n) (f .1)) (omega (arith, f .2)) (omega arith) (omega arith) (omega arith) (kept-all top xs)
       (v e (q .env) (f .0) (q .stack .bound))

@@ -8,7 +8,6 @@ use Rattle.expr.specs.Answers.{Answer, refuse, andThen}
 use Rattle.expr.specs.Terms.{Core, Expr, IfThenElse, records}
 use Rattle.expr.specs.Form.{encode}
 use Rattle.expr.specs.Replaced.{encodeAll}
-use Rattle.expr.proofs.Slices.{part}
 use Rattle.desugar.specs.Meter.{Meter, left}
 use Rattle.desugar.specs.Desugar.{desugar}
 use Rattle.desugar.specs.Memory.{Kept}
@@ -21,7 +20,6 @@ use Rattle.desugar.proofs.Regions.{kept-then, kept-less, size-pos}
 use Rattle.desugar.proofs.Frames.{bound-kept, lies-kept}
 use Rattle.desugar.proofs.Closing.{negated-bounds, negates-kept}
 use Rattle.desugar.proofs.WalkLaws.{rest-at, stack-moved, ready-first, lies-inside, Settled, wider, then-ok, then-refused}
-use Rattle.desugar.proofs.WalkSteps.{after}
 
 -- ## The condition and the first branch
 
@@ -41,11 +39,11 @@ module _ {s xs : List ℕ} {from l last top a : ℕ} (place : ℕ) (q : ReadyThr
       WalkedAs whole (from + length (encodeAll (q .first ∷ q .second ∷ q .third ∷ [])))
       (place + 1 + records (q .first) + records (q .second) + records (q .third)) top a (l + 1) xs ys r
 
-  module _ {w : Went} {xs₂ : List ℕ} (c : Settled x₁ (length (encode (q .first))) (place + 1 + records (q .first)) (top + 6) a xs xs₂ w) where
-    pub second-text : TermsAt s (from + w .used) l (w .next) (q .second ∷ q .third ∷ [])
-    second-text = rest-at (q .first) (q .second ∷ q .third ∷ []) (q .text) (ap (λ n. from + n) (c .used-is)) (c .next-is)
+  module _ {w : Went} {xs₂ : List ℕ} (c : Settled x₁ (from + length (encode (q .first))) (place + 1 + records (q .first)) (top + 6) a xs xs₂ w) where
+    pub second-text : TermsAt s (w .used) l (w .next) (q .second ∷ q .third ∷ [])
+    second-text = rest-at (q .first) (q .second ∷ q .third ∷ []) (q .text) (c .used-is) (c .next-is)
 
-    abbrev pub branch-ready : Ready (part (from + w .used) s) l (w .next) last (top + 6 + 3 * w .count) (w .left) xs₂
+    abbrev pub branch-ready : Ready s (w .used) l (w .next) last (top + 6 + 3 * w .count) (w .left) xs₂
     branch-ready =
         ready-first (q .second) (q .third ∷ []) second-text
         (stack-moved (q .stack) (c .kept) (omega (arith, q .stack .below)) (omega (arith, q .stack .below)) (omega (arith, c .drawn)))
@@ -65,15 +63,15 @@ module _ {s xs : List ℕ} {from l last top a : ℕ} (place : ℕ) (q : ReadyThr
     pub branch-stops : {n p : ℕ} → x₂ ≡ refuse n p → whole ≡ refuse n p
     branch-stops e = if-is ∙ then-refused _ e
 
-    module _ {w₂ : Went} {xs₃ : List ℕ} (d : Settled x₂ (length (encode (q .second))) (w .next + records (q .second)) (top + 6 + 3 * w .count) (w .left) xs₂ xs₃ w₂) where
-      abbrev pub else-ready : ReadyElse s (from + w .used + w₂ .used) l (w₂ .next) last xs₃ top (w .count) (w₂ .count) (w₂ .left)
+    module _ {w₂ : Went} {xs₃ : List ℕ} (d : Settled x₂ (w .used + length (encode (q .second))) (w .next + records (q .second)) (top + 6 + 3 * w .count) (w .left) xs₂ xs₃ w₂) where
+      abbrev pub else-ready : ReadyElse s (w₂ .used) l (w₂ .next) last xs₃ top (w .count) (w₂ .count) (w₂ .left)
       else-ready =
           record {
             third = q .third;
             env = q .env;
             condition-core = c .core;
             first-core = d .core;
-            text = rest-at (q .second) (q .third ∷ []) second-text (ap (λ n. from + w .used + n) (d .used-is)) (d .next-is);
+            text = rest-at (q .second) (q .third ∷ []) second-text (d .used-is) (d .next-is);
             condition = lies-kept (d .kept) (omega arith) (c .lies);
             first = d .lies;
             bound = bound-kept (q .env) (kept-then (kept-less (omega arith) (c .kept)) (kept-less (omega arith) (d .kept))) (q .stack .below) (q .stack .bound);
@@ -83,13 +81,13 @@ module _ {s xs : List ℕ} {from l last top a : ℕ} (place : ℕ) (q : ReadyThr
           }
 
       pub if-done : (xs₄ : List ℕ) (r : Walked)
-          → ((p : ReadyElse s (from + w .used + w₂ .used) l (w₂ .next) last xs₃ top (w .count) (w₂ .count) (w₂ .left))
+          → ((p : ReadyElse s (w₂ .used) l (w₂ .next) last xs₃ top (w .count) (w₂ .count) (w₂ .left))
           → WalkedAs (andThen (desugar (p .env) (p .third) (w₂ .next) (left (w₂ .left))) (λ e. choosing (p .condition-core) (p .first-core) (e .0) place (e .1)))
-          (from + w .used + w₂ .used + length (encode (p .third))) (w₂ .next + records (p .third)) top (w .count + w₂ .count + w₂ .left) (l + 1) xs₃ xs₄ r)
+          (w₂ .used + length (encode (p .third))) (w₂ .next + records (p .third)) top (w .count + w₂ .count + w₂ .left) (l + 1) xs₃ xs₄ r)
           → Told xs₄ r
       if-done xs₄ r else-told =
           wider whole (andThen (desugar (q .env) (q .third) (w₂ .next) (left (w₂ .left))) (λ e. choosing (c .core) (d .core) (e .0) place (e .1)))
-          (from + length (encodeAll (q .first ∷ q .second ∷ q .third ∷ []))) (from + w .used + w₂ .used + length (encode (q .third)))
+          (from + length (encodeAll (q .first ∷ q .second ∷ q .third ∷ []))) (w₂ .used + length (encode (q .third)))
           (place + 1 + records (q .first) + records (q .second) + records (q .third)) (w₂ .next + records (q .third)) top top a (w .count + w₂ .count + w₂ .left) (l + 1)
           (l + 1) xs xs₃ xs₄ r
           (if-is ∙ then-ok _ (d .is) ∙ ap (λ p. andThen (desugar (q .env) (q .third) p (left (w₂ .left))) (λ e. choosing (c .core) (d .core) (e .0) place (e .1))) (sym (d .next-is)))
@@ -122,7 +120,7 @@ module _ {s xs : List ℕ} {from l next last top n m a : ℕ} (place : ℕ) (q :
     pub small : 2 * negatedSize r ≤ 3 * n + 1
     small = omega (arith, negated-bounds r g .1, q .condition .count)
 
-    abbrev pub other-ready : (to : ℕ) → to ≡ above → Ready (part from s) l next last to a xs₁
+    abbrev pub other-ready : (to : ℕ) → to ≡ above → Ready s from l next last to a xs₁
     other-ready to e =
         ready-first {env = q .env} (q .third) [] (q .text)
         (record {
@@ -135,21 +133,21 @@ module _ {s xs : List ℕ} {from l next last top n m a : ℕ} (place : ℕ) (q :
     abbrev x₃ : Answer (Core × Meter)
     x₃ = desugar (q .env) (q .third) next (left a)
 
-    module _ {w : Went} {xs₂ : List ℕ} {to : ℕ} (e : to ≡ above) (d : Came x₃ (length (encode (q .third))) (next + records (q .third)) to a l xs₁ xs₂ w) where
-      pub branch-room : BranchRoom xs₂ top n m (negatedSize r) (after from w (w .at))
+    module _ {w : Went} {xs₂ : List ℕ} {to : ℕ} (e : to ≡ above) (d : Came x₃ (from + length (encode (q .third))) (next + records (q .third)) to a l xs₁ xs₂ w) where
+      pub branch-room : BranchRoom xs₂ top n m (negatedSize r) w
       branch-room = record { apart = omega (arith, e, d .above); room = lies-inside (d .lies) }
 
       kept₂ : Kept (top + 9 + 3 * n + 3 * m) xs xs₂
       kept₂ = kept-then kept (kept-less (omega (arith, e)) (d .kept))
 
       pub other-done : (xs₃ : List ℕ) (z : Walked)
-          → ((limit : ℕ) (c t e : Core) → Branches xs₂ top n m r (after from w (w .at)) limit c t e
-          → WalkedAs (choosing c t e place (left (w .left))) (from + w .used) (w .next) top (n + m + w .count + w .left) 0 xs₂ xs₃ z)
+          → ((limit : ℕ) (c t e : Core) → Branches xs₂ top n m r w limit c t e
+          → WalkedAs (choosing c t e place (left (w .left))) (w .used) (w .next) top (n + m + w .count + w .left) 0 xs₂ xs₃ z)
           → WalkedAs (andThen x₃ (λ e. choosing c (q .first-core) (e .0) place (e .1))) (from + length (encode (q .third))) (next + records (q .third)) top (n + m + a) (l + 1) xs xs₃ z
       other-done xs₃ z chooses =
           wider (andThen x₃ (λ e. choosing c (q .first-core) (e .0) place (e .1))) (choosing c (q .first-core) (d .core) place (left (w .left)))
-          (from + length (encode (q .third))) (from + w .used) (next + records (q .third)) (w .next) top top (n + m + a) (n + m + w .count + w .left) (l + 1) 0
-          xs xs₂ xs₃ z (then-ok _ (d .is)) (ap (λ k. from + k) (d .used-is)) (d .next-is) (omega arith) (omega (arith, d .drawn)) (omega (arith, d .drawn))
+          (from + length (encode (q .third))) (w .used) (next + records (q .third)) (w .next) top top (n + m + a) (n + m + w .count + w .left) (l + 1) 0
+          xs xs₂ xs₃ z (then-ok _ (d .is)) (d .used-is) (d .next-is) (omega arith) (omega (arith, d .drawn)) (omega (arith, d .drawn))
           (kept-less (omega arith) kept₂)
           (chooses a c (q .first-core) (d .core)
           (record {

@@ -11,7 +11,6 @@ use Rattle.expr.specs.Answers.{Answer, ok, refuse, andThen}
 use Rattle.expr.specs.Terms.{Op2, Union, Intersect, Xor, Difference, Sequence, LtlUntil, Core, two, Expr, Binary, Let, Name, op2Kind, records}
 use Rattle.expr.specs.Form.{encode}
 use Rattle.expr.specs.Replaced.{encodeAll}
-use Rattle.expr.proofs.Slices.{part}
 use Rattle.desugar.specs.Bindings.{Env, variable}
 use Rattle.desugar.specs.Meter.{Meter, left, drawing}
 use Rattle.desugar.specs.Negation.{isOne, join, joinDraw}
@@ -24,8 +23,7 @@ use Rattle.desugar.specs.declared.went.Walked.{Walked}
 use Rattle.desugar.specs.declared.went.Walked.the-variants.{Done}
 use Rattle.desugar.proofs.Regions.{kept-then, kept-less}
 use Rattle.desugar.proofs.Frames.{bound-kept, lies-kept}
-use Rattle.desugar.proofs.WalkLaws.{rest-at, stack-moved, ready-first, lies-inside, Settled, wider, then-ok, then-refused}
-use Rattle.desugar.proofs.WalkSteps.{after}
+use Rattle.desugar.proofs.WalkLaws.{rest-at, stack-moved, ready-first, lies-inside, Visited, Settled, wider, then-ok, then-refused}
 
 -- a Sequence whose first operand is One is its second, and draws nothing
 pub join-dropped : (o : Op2) (c d : Core) → drops o c ≡ true → (join o c d ≡ d) × (joinDraw o c d ≡ 0)
@@ -60,12 +58,12 @@ module _ {s xs : List ℕ} {from l last top a : ℕ} (place : ℕ) (q : ReadyTwo
       (place + 1 + records (q .first) + records (q .second)) top a (l + 1) xs ys r
 
   -- the first operand's core is settled
-  module _ {w : Went} {xs₂ : List ℕ} {at : ℕ} (c : Settled x₁ (length (encode (q .first))) (place + 1 + records (q .first)) at a xs xs₂ w)
+  module _ {w : Went} {xs₂ : List ℕ} {at : ℕ} (c : Settled x₁ (from + length (encode (q .first))) (place + 1 + records (q .first)) at a xs xs₂ w)
       (low : top ≤ at) (high : at ≤ top + 7) where
-    pub second-text : TermsAt s (from + w .used) l (w .next) (q .second ∷ [])
-    second-text = rest-at (q .first) (q .second ∷ []) (q .text) (ap (λ n. from + n) (c .used-is)) (c .next-is)
+    pub second-text : TermsAt s (w .used) l (w .next) (q .second ∷ [])
+    second-text = rest-at (q .first) (q .second ∷ []) (q .text) (c .used-is) (c .next-is)
 
-    abbrev pub second-ready : (to : ℕ) → top ≤ to → to ≤ at + 3 * w .count → Ready (part (from + w .used) s) l (w .next) last to (w .left) xs₂
+    abbrev pub second-ready : (to : ℕ) → top ≤ to → to ≤ at + 3 * w .count → Ready s (w .used) l (w .next) last to (w .left) xs₂
     second-ready to h k =
         ready-first (q .second) [] second-text
         (stack-moved (q .stack) (c .kept) (omega (arith, q .stack .below)) (omega (arith, q .stack .below)) (omega (arith, c .drawn)))
@@ -93,8 +91,8 @@ module _ {s xs : List ℕ} {from l last top a : ℕ} (place : ℕ) (q : ReadyTwo
 
     -- the second operand's core, worked out above an index
     module _ {w₂ : Went} {xs₃ : List ℕ} {to : ℕ}
-        (d : Came (x₂ (q .env)) (length (encode (q .second))) (w .next + records (q .second)) to (w .left) l xs₂ xs₃ w₂) where
-      abbrev used-all : from + w .used + w₂ .used ≡ from + length (encodeAll (q .first ∷ q .second ∷ []))
+        (d : Came (x₂ (q .env)) (w .used + length (encode (q .second))) (w .next + records (q .second)) to (w .left) l xs₂ xs₃ w₂) where
+      abbrev used-all : w₂ .used ≡ from + length (encodeAll (q .first ∷ q .second ∷ []))
       used-all = omega (arith, c .used-is, d .used-is, pair-long (q .first) (q .second))
 
       abbrev next-all : w₂ .next ≡ place + 1 + records (q .first) + records (q .second)
@@ -102,7 +100,7 @@ module _ {s xs : List ℕ} {from l last top a : ℕ} (place : ℕ) (q : ReadyTwo
 
       -- the first is dropped
       pub dropped-done : {kind : ℕ} (k : Operator2 kind) → to ≡ top → drops (k .o) (c .core) ≡ true
-          → Told (Binary (k .o) (q .first) (q .second)) xs₃ (Done (after (from + w .used) w₂ (w₂ .at)))
+          → Told (Binary (k .o) (q .first) (q .second)) xs₃ (Done w₂)
       dropped-done k e h =
           let j = join-dropped (k .o) (c .core) (d .core) h in
           record {
@@ -119,26 +117,26 @@ module _ {s xs : List ℕ} {from l last top a : ℕ} (place : ℕ) (q : ReadyTwo
             drawn = omega (arith, d .drawn, c .drawn);
           }
 
-      pub join-room : at ≡ top + 3 → to ≡ at + 3 * w .count → JoinRoom xs₃ top (w .count) (after (from + w .used) w₂ (w₂ .at))
+      pub join-room : at ≡ top + 3 → to ≡ at + 3 * w .count → JoinRoom xs₃ top (w .count) w₂
       join-room e h = record { apart = omega (arith, e, h, d .above); room = lies-inside (d .lies) }
 
       -- both are kept, or the second is dropped
       pub joined-done : {kind : ℕ} (xs₄ : List ℕ) (r : Walked) (k : Operator2 kind) → at ≡ top + 3 → to ≡ at + 3 * w .count → drops (k .o) (c .core) ≡ false
           → ((o : Op2) (c d : Core) → op2Kind o ≡ kind → drops o c ≡ false → Lies xs₃ (top + 3) (w .count) c → Lies xs₃ (w₂ .at) (w₂ .count) d
-          → WalkedAs (drawing (joinDraw o c d) place (join o c d) (left (w₂ .left))) (from + w .used + w₂ .used) (w₂ .next) top (w .count + w₂ .count + w₂ .left) 0 xs₃ xs₄ r)
+          → WalkedAs (drawing (joinDraw o c d) place (join o c d) (left (w₂ .left))) (w₂ .used) (w₂ .next) top (w .count + w₂ .count + w₂ .left) 0 xs₃ xs₄ r)
           → Told (Binary (k .o) (q .first) (q .second)) xs₄ r
       joined-done xs₄ r k e h kept joins =
           let kept₃ = kept-then (kept-less low (c .kept)) (kept-less (omega (arith, e, h)) (d .kept)) in
           wider (desugar (q .env) (Binary (k .o) (q .first) (q .second)) place (left a))
           (drawing (joinDraw (k .o) (c .core) (d .core)) place (join (k .o) (c .core) (d .core)) (left (w₂ .left)))
-          (from + length (encodeAll (q .first ∷ q .second ∷ []))) (from + w .used + w₂ .used) (place + 1 + records (q .first) + records (q .second)) (w₂ .next)
+          (from + length (encodeAll (q .first ∷ q .second ∷ []))) (w₂ .used) (place + 1 + records (q .first) + records (q .second)) (w₂ .next)
           top top a (w .count + w₂ .count + w₂ .left) (l + 1) 0 xs xs₃ xs₄ r
           (binary-is (k .o) (d .is)) used-all next-all (omega arith) (omega (arith, c .drawn, d .drawn)) (omega (arith, c .drawn, d .drawn)) kept₃
           (joins (k .o) (c .core) (d .core) (k .is) kept
           (lies-kept (d .kept) (omega (arith, e, h)) (subst (λ n. Lies xs₂ n (w .count) (c .core)) e (c .lies))) (d .lies))
 
   -- Let: the definition's core lies at the top, and a frame behind it
-  module _ {w : Went} {xs₂ : List ℕ} (c : Settled x₁ (length (encode (q .first))) (place + 1 + records (q .first)) top a xs xs₂ w) where
+  module _ {w : Went} {xs₂ : List ℕ} (c : Settled x₁ (from + length (encode (q .first))) (place + 1 + records (q .first)) top a xs xs₂ w) where
     pub bound₂ : Bound xs₂ last (q .env)
     bound₂ = bound-kept (q .env) (c .kept) (q .stack .below) (q .stack .bound)
 
@@ -152,9 +150,9 @@ module _ {s xs : List ℕ} {from l last top a : ℕ} (place : ℕ) (q : ReadyTwo
 
     module _ (x : Name) {inner : ℕ} {xs₃ : List ℕ} (top-is : inner ≡ top + 3 * w .count + 5) (kept : Kept (top + 3 * w .count) xs₂ xs₃)
         (binds : (env : Env Core) (d : Core) → Bound xs₂ last env → Lies xs₂ top (w .count) d → Bound xs₃ inner (variable x d ∷ env)) where
-      abbrev pub body-ready : Ready (part (from + w .used) s) l (w .next) inner (top + 3 * w .count + 5) (w .left) xs₃
+      abbrev pub body-ready : Ready s (w .used) l (w .next) inner (top + 3 * w .count + 5) (w .left) xs₃
       body-ready =
-          ready-first {env = variable x (c .core) ∷ q .env} (q .second) [] (rest-at (q .first) (q .second ∷ []) (q .text) (ap (λ n. from + n) (c .used-is)) (c .next-is))
+          ready-first {env = variable x (c .core) ∷ q .env} (q .second) [] (rest-at (q .first) (q .second ∷ []) (q .text) (c .used-is) (c .next-is))
           (record {
             bound = binds (q .env) (c .core) bound₂ (c .lies);
             below = omega (arith, top-is);
@@ -168,21 +166,11 @@ module _ {s xs : List ℕ} {from l last top a : ℕ} (place : ℕ) (q : ReadyTwo
       let-is : desugar (q .env) (Let x (q .first) (q .second)) place (left a) ≡ x₃
       let-is = then-ok _ (c .is) ∙ ap (λ p. desugar (variable x (c .core) ∷ q .env) (q .second) p (left (w .left))) (sym (c .next-is))
 
-      pub let-stops : {n p : ℕ} → x₃ ≡ refuse n p → desugar (q .env) (Let x (q .first) (q .second)) place (left a) ≡ refuse n p
-      let-stops e = let-is ∙ e
-
-      pub let-done : {w₂ : Went} (xs₄ : List ℕ)
-          → Came x₃ (length (encode (q .second))) (w .next + records (q .second)) (top + 3 * w .count + 5) (w .left) l xs₃ xs₄ w₂
-          → Told (Let x (q .first) (q .second)) xs₄ (Done (after (from + w .used) w₂ (w₂ .at)))
-      let-done xs₄ d =
-          record {
-            core = d .core;
-            is = let-is ∙ d .is;
-            used-is = omega (arith, c .used-is, d .used-is, pair-long (q .first) (q .second));
-            next-is = omega (arith, c .next-is, d .next-is);
-            lies = d .lies;
-            kept = kept-then (c .kept) (kept-then (kept-less (omega arith) kept) (kept-less (omega arith) (d .kept)));
-            above = omega (arith, d .above);
-            reach = omega (arith, d .reach, c .drawn);
-            drawn = omega (arith, d .drawn, c .drawn);
-          }
+      pub let-done : (xs₄ : List ℕ) (r : Walked) → Visited s (w .used) l (w .next) inner (top + 3 * w .count + 5) (w .left) xs₃ xs₄ r
+          → Told (Let x (q .first) (q .second)) xs₄ r
+      let-done xs₄ r v =
+          wider (desugar (q .env) (Let x (q .first) (q .second)) place (left a)) x₃ (from + length (encodeAll (q .first ∷ q .second ∷ [])))
+          (w .used + length (encode (q .second))) (place + 1 + records (q .first) + records (q .second)) (w .next + records (q .second))
+          top (top + 3 * w .count + 5) a (w .left) (l + 1) l xs xs₃ xs₄ r
+          let-is (omega (arith, c .used-is, pair-long (q .first) (q .second))) (omega (arith, c .next-is)) (omega arith) (omega (arith, c .drawn))
+          (omega (arith, c .drawn)) (kept-then (c .kept) (kept-less (omega arith) kept)) (v body-ready)

@@ -24,19 +24,26 @@ pub use Rattle.desugar.proofs.RecordBytes.{lies-inside}
 
 -- ## Terms one behind the other
 
+-- the term at a byte is at the front of what `&s[at..]` holds
+abbrev pub in-part : (s : List ℕ) (at : ℕ) {levels place : ℕ} {e : Expr} → TermAt (drop at s) levels place e → TermAt (part at s) levels place e
+in-part s at t = record { more = t .more; bytes = part-is at s ∙ t .bytes; fits = t .fits; deep = t .deep; low = t .low }
+
 module _ {s : List ℕ} {from levels place : ℕ} (e : Expr) (es : List Expr) (t : TermsAt s from levels place (e ∷ es)) where
   behind : drop from s ≡ encode e ++ (encodeAll es ++ t .more)
   behind = t .bytes ∙ append-assoc (encode e) (encodeAll es) (t .more)
 
-  pub first-at : TermAt (part from s) levels place e
-  first-at =
+  pub first-behind : TermAt (drop from s) levels place e
+  first-behind =
       record {
         more = encodeAll es ++ t .more;
-        bytes = part-is from s ∙ behind;
+        bytes = behind;
         fits = t .fits .0;
         deep = omega (arith, t .deep);
         low = omega (arith, t .low);
       }
+
+  pub first-at : TermAt (part from s) levels place e
+  first-at = in-part s from first-behind
 
   pub used-inside : from + length (encode e) ≤ length s
   used-inside = omega (arith, t .start, length-drop from s, ap length behind, length-append (encode e) (encodeAll es ++ t .more))
@@ -69,27 +76,27 @@ stack-moved {env = env} k kept low below fits =
 
 -- what is asked of the first of some terms
 abbrev pub ready-first : {s xs : List ℕ} {from levels place last top a : ℕ} {env : Env Core} (e : Expr) (es : List Expr)
-    → TermsAt s from levels place (e ∷ es) → Stack xs last top a levels env → Ready (part from s) levels place last top a xs
-ready-first {env = env} e es t k = record { term = e; env = env; text = first-at e es t; stack = k }
+    → TermsAt s from levels place (e ∷ es) → Stack xs last top a levels env → Ready s from levels place last top a xs
+ready-first {env = env} e es t k = record { term = e; env = env; start = t .start; text = first-behind e es t; stack = k }
 
 -- ## What a walk came to
 
 -- the contract of a walk over one term
-abbrev pub Visited : List ℕ → (levels place last top a : ℕ) → (xs xs′ : List ℕ) → Walked → Type 0
-Visited s levels place last top a xs xs′ r =
-    (q : Ready s levels place last top a xs)
-    → WalkedAs (desugar (q .env) (q .term) place (left a)) (length (encode (q .term))) (place + records (q .term)) top a levels xs xs′ r
+abbrev pub Visited : List ℕ → (at levels place last top a : ℕ) → (xs xs′ : List ℕ) → Walked → Type 0
+Visited s at levels place last top a xs xs′ r =
+    (q : Ready s at levels place last top a xs)
+    → WalkedAs (desugar (q .env) (q .term) place (left a)) (at + length (encode (q .term))) (place + records (q .term)) top a levels xs xs′ r
 
-module _ {s xs : List ℕ} {levels place last top a : ℕ} (xs′ : List ℕ) (r : Walked) (q : Ready s levels place last top a xs)
-    (v : Visited s levels place last top a xs xs′ r) where
+module _ {s xs : List ℕ} {at levels place last top a : ℕ} (xs′ : List ℕ) (r : Walked) (q : Ready s at levels place last top a xs)
+    (v : Visited s at levels place last top a xs xs′ r) where
   abbrev pub Visit : Walked → Type 0
-  Visit = WalkedAs (desugar (q .env) (q .term) place (left a)) (length (encode (q .term))) (place + records (q .term)) top a levels xs xs′
+  Visit = WalkedAs (desugar (q .env) (q .term) place (left a)) (at + length (encode (q .term))) (place + records (q .term)) top a levels xs xs′
 
   pub came : {w : Went} → r ≡ Done w
-      → Came (desugar (q .env) (q .term) place (left a)) (length (encode (q .term))) (place + records (q .term)) top a levels xs xs′ w
+      → Came (desugar (q .env) (q .term) place (left a)) (at + length (encode (q .term))) (place + records (q .term)) top a levels xs xs′ w
   came e = subst Visit e (v q)
 
-  pub stopped : {n at : ℕ} → r ≡ Refused n at → desugar (q .env) (q .term) place (left a) ≡ refuse n at
+  pub stopped : {n p : ℕ} → r ≡ Refused n p → desugar (q .env) (q .term) place (left a) ≡ refuse n p
   stopped e = subst Visit e (v q)
 
 -- the same answer, seen from a lower top with more room and more of an allowance

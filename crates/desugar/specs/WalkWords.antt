@@ -53,18 +53,19 @@ pub record Came (x : Answer (Core × Meter)) (used next top allowance levels : �
   pub reach : w .at + 3 * w .count + 3 * w .left ≤ top + 3 * allowance + 12 * levels
   pub drawn : w .count + w .left ≤ allowance
 
--- r is the definition's answer x: the bytes that are used, the index of the record behind them, and the core; or the refusal
+-- r is the definition's answer x: the index of the byte behind the term, the index of the record behind it, and the core; or the refusal
 abbrev pub WalkedAs : Answer (Core × Meter) → (used next top allowance levels : ℕ) → (xs xs′ : List ℕ) → Walked → Type 0
 WalkedAs x used next top allowance levels xs xs′ (Done w) = Came x used next top allowance levels xs xs′ w
 WalkedAs x used next top allowance levels xs xs′ (Refused n p) = x ≡ refuse n p
 
 -- ## What is asked
 
--- of a term
-pub record Ready (s : List ℕ) (levels place last top allowance : ℕ) (xs : List ℕ) : Type 0 where
+-- of a term that begins at a byte
+pub record Ready (s : List ℕ) (at levels place last top allowance : ℕ) (xs : List ℕ) : Type 0 where
   pub term : Expr
   pub env : Env Core
-  pub text : TermAt s levels place term
+  pub start : at ≤ length s
+  pub text : TermAt (drop at s) levels place term
   pub stack : Stack xs last top allowance levels env
 
 -- of a term's children, behind its record, which has the index place
@@ -92,9 +93,9 @@ pub record ReadyThree (s : List ℕ) (from levels place last top allowance : ℕ
 -- ## What is told of the answer
 
 -- of a term
-abbrev pub TermWalked : {s xs : List ℕ} {levels place last top allowance : ℕ} → Ready s levels place last top allowance xs → List ℕ → Walked → Type 0
-TermWalked {s} {xs} {levels} {place} {last} {top} {allowance} q =
-    WalkedAs (desugar (q .env) (q .term) place (left allowance)) (length (encode (q .term))) (place + records (q .term)) top allowance levels xs
+abbrev pub TermWalked : {s xs : List ℕ} {at levels place last top allowance : ℕ} → Ready s at levels place last top allowance xs → List ℕ → Walked → Type 0
+TermWalked {s} {xs} {at} {levels} {place} {last} {top} {allowance} q =
+    WalkedAs (desugar (q .env) (q .term) place (left allowance)) (at + length (encode (q .term))) (place + records (q .term)) top allowance levels xs
 
 -- of a node f with its children
 abbrev pub OneWalked : {s xs : List ℕ} {from levels place last top allowance : ℕ} → ReadyOne s from levels place last top allowance xs → (Expr → Expr) → List ℕ → Walked → Type 0

@@ -24,6 +24,7 @@ fn write_desugared(term: &[u8], allowance: usize, work: &mut [u32], out: &mut [u
 {
     let went = match crate::walk::desugar_with_env(
         term,
+        0,
         MAX_DEPTH,
         0,
         Bindings::none(),

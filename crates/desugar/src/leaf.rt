@@ -43,17 +43,24 @@ fn write_atom(head: Head, work: &mut [u32], top: usize)
 }
 
 // The core of an atom.
-fn plain(head: Head, place: usize, work: &mut [u32], top: usize, allowance: usize) -> Walked
+fn plain(
+    head: Head,
+    used: usize,
+    place: usize,
+    work: &mut [u32],
+    top: usize,
+    allowance: usize,
+) -> Walked
     requires { ⌜ (head .kind ≤ 6) × DrawRoom (now work) place top allowance ⌝ }
     ensures { λ r. ⌜ ((s : List ℕ) (ρ : Env Core)
-        → WalkedAs (desugar ρ (Plain (atomOf (recordOf s head))) place (left allowance)) (head .size) (place + 1) top allowance 0 (now (work .entry)) (now (work .exit)) r) ⌝ }
+        → WalkedAs (desugar ρ (Plain (atomOf (recordOf s head))) place (left allowance)) used (place + 1) top allowance 0 (now (work .entry)) (now (work .exit)) r) ⌝ }
 {
     if allowance == 0 {
         return Walked::Refused(24, place);
     }
     write_atom(head, work, top);
     Walked::Done(Went {
-        used: head.size,
+        used,
         next: place + 1,
         at: top,
         count: 1,
@@ -64,6 +71,7 @@ fn plain(head: Head, place: usize, work: &mut [u32], top: usize, allowance: usiz
 // The core of a variable: a copy of the one that it is bound to.
 fn variable(
     head: Head,
+    used: usize,
     place: usize,
     env: Bindings,
     work: &mut [u32],
@@ -72,7 +80,7 @@ fn variable(
 ) -> Walked
     requires { ⌜ EnvRoom (now work) place (env .last) top allowance ⌝ }
     ensures { λ r. ⌜ ((ρ : Env Core) → Bound (now (work .entry)) (env .last) ρ
-        → WalkedAs (desugar ρ (Var (head .name)) place (left allowance)) (head .size) (place + 1) top allowance 0 (now (work .entry)) (now (work .exit)) r) ⌝ }
+        → WalkedAs (desugar ρ (Var (head .name)) place (left allowance)) used (place + 1) top allowance 0 (now (work .entry)) (now (work .exit)) r) ⌝ }
 {
     match env.lookup_variable(work, head.name) {
         Variable::Unbound => match env.lookup_alias(work, head.name) {
@@ -85,7 +93,7 @@ fn variable(
             }
             crate::memory::copy(work, at, top, 3 * count);
             Walked::Done(Went {
-                used: head.size,
+                used,
                 next: place + 1,
                 at: top,
                 count,
@@ -95,9 +103,11 @@ fn variable(
     }
 }
 
-// The core of the record `head` of the bytes s: an atom, a variable, or a use of a range.
+// The core of the record `head` of the bytes s: an atom, a variable, or a use of a range. s is a part of the whole bytes, where the record
+// ends at the index `used`.
 pub(crate) fn leaf(
     head: Head,
+    used: usize,
     s: &[u8],
     place: usize,
     env: Bindings,
@@ -107,12 +117,12 @@ pub(crate) fn leaf(
 ) -> Walked
     requires { ⌜ LeafReady (now s) head place (env .last) top allowance (now work) ⌝ }
     ensures { λ r. ⌜ ((e : Expr) (ρ : Env Core) → nodeOf (recordOf (now (s .entry)) head) ≡ node0 e → Bound (now (work .entry)) (env .last) ρ
-        → WalkedAs (desugar ρ e place (left allowance)) (head .size) (place + 1) top allowance 0 (now (work .entry)) (now (work .exit)) r) ⌝ }
+        → WalkedAs (desugar ρ e place (left allowance)) used (place + 1) top allowance 0 (now (work .entry)) (now (work .exit)) r) ⌝ }
 {
     let kind = head.kind;
     match kind {
-        0..=6 => plain(head, place, work, top, allowance),
-        20 => variable(head, place, env, work, top, allowance),
-        _ => crate::ranged::ranged(head, s, place, env, work, top, allowance),
+        0..=6 => plain(head, used, place, work, top, allowance),
+        20 => variable(head, used, place, env, work, top, allowance),
+        _ => crate::ranged::ranged(head, used, s, place, env, work, top, allowance),
     }
 }

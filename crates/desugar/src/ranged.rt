@@ -135,6 +135,7 @@ fn write_use(head: Head, a: &[u8], b: &[u8], start: u32, n: usize, work: &mut [u
 // The core of a use of the fields from `start` up to `end`, which keeps the rules: the draw.
 fn use_core(
     head: Head,
+    used: usize,
     a: &[u8],
     b: &[u8],
     start: u32,
@@ -146,7 +147,7 @@ fn use_core(
 ) -> Walked
     requires { ⌜ RangeKept (now a) (now b) head «start» «end» × DrawRoom (now work) place top allowance ⌝ }
     ensures { λ r. ⌜ WalkedAs (useDrawn (useOf (recordWith (now (a .entry)) (now (b .entry)) head)) («start», «end») place (left allowance))
-        (head .size) (place + 1) top allowance 0 (now (work .entry)) (now (work .exit)) r ⌝ }
+        used (place + 1) top allowance 0 (now (work .entry)) (now (work .exit)) r ⌝ }
 {
     let n = wide(end - start);
     let size = use_size(head, a, b, n);
@@ -156,7 +157,7 @@ fn use_core(
     let count = size as usize;
     write_use(head, a, b, start, n, work, top);
     Walked::Done(Went {
-        used: head.size,
+        used,
         next: place + 1,
         at: top,
         count,
@@ -201,6 +202,7 @@ pub fn judged_range(head: Head, s: &[u8], env: Bindings, work: &[u32]) -> Judged
 // The core of a use of a range: the rules, then the draw.
 pub(crate) fn ranged(
     head: Head,
+    used: usize,
     s: &[u8],
     place: usize,
     env: Bindings,
@@ -210,7 +212,7 @@ pub(crate) fn ranged(
 ) -> Walked
     requires { ⌜ LeafReady (now s) head place (env .last) top allowance (now work) ⌝ }
     ensures { λ r. ⌜ ((ρ : Env Core) → Bound (now (work .entry)) (env .last) ρ
-        → WalkedAs (desugar ρ (Ranged (whereOf (recordOf (now (s .entry)) head)) (useOf (recordOf (now (s .entry)) head))) place (left allowance)) (head .size) (place + 1) top allowance 0 (now (work .entry)) (now (work .exit)) r) ⌝ }
+        → WalkedAs (desugar ρ (Ranged (whereOf (recordOf (now (s .entry)) head)) (useOf (recordOf (now (s .entry)) head))) place (left allowance)) used (place + 1) top allowance 0 (now (work .entry)) (now (work .exit)) r) ⌝ }
 {
     let first = head.a.at;
     let second = head.b.at;
@@ -219,7 +221,7 @@ pub(crate) fn ranged(
         Judged::Range(start, end) => {
             let a = &s[first..];
             let b = &s[second..];
-            use_core(head, a, b, start, end, place, work, top, allowance)
+            use_core(head, used, a, b, start, end, place, work, top, allowance)
         }
     }
 }

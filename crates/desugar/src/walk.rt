@@ -8,10 +8,11 @@ use crate::went::Walked;
 use crate::went::Went;
 use expr::records::HeadRead;
 
-// The core of the term at the front of the bytes, of at most `left` levels, whose first record has the index `place`: under the
-// bindings around it, above the `top` of the stack.
+// The core of the term that begins at the byte `at`, of at most `left` levels, whose first record has the index `place`: under the
+// bindings around it, above the `top` of the stack. It takes the whole bytes and an index, which is faster than a new slice for each call.
 pub(crate) fn desugar_with_env(
     s: &[u8],
+    at: usize,
     left: usize,
     place: usize,
     env: Bindings,
@@ -19,16 +20,16 @@ pub(crate) fn desugar_with_env(
     top: usize,
     allowance: usize,
 ) -> Walked
-    requires { ⌜ Ready (now s) left place (env .last) top allowance (now work) ⌝ }
-    ensures { λ r. ⌜ ((q : Ready (now (s .entry)) left place (env .last) top allowance (now (work .entry)))
+    requires { ⌜ Ready (now s) at left place (env .last) top allowance (now work) ⌝ }
+    ensures { λ r. ⌜ ((q : Ready (now (s .entry)) at left place (env .last) top allowance (now (work .entry)))
         → TermWalked q (now (work .exit)) r) ⌝ }
 {
-    let head = match expr::records::read_record(s) {
+    let head = match expr::records::read_record(&s[at..]) {
         HeadRead::Refused(number) => return Walked::Refused(number, place),
         HeadRead::Found(head) => head,
     };
     let kind = head.kind;
-    let from = head.size;
+    let from = at + head.size;
     match kind {
         7..=12 => binary(kind, s, from, left - 1, place, env, work, top, allowance),
         13..=15 => unary(kind, s, from, left - 1, place, env, work, top, allowance),
@@ -58,7 +59,7 @@ pub(crate) fn desugar_with_env(
             top,
             allowance,
         ),
-        _ => crate::leaf::leaf(head, s, place, env, work, top, allowance),
+        _ => crate::leaf::leaf(head, from, &s[at..], place, env, work, top, allowance),
     }
 }
 
@@ -79,7 +80,8 @@ fn unary(
         → OneWalked q (Unary (k .o)) (now (work .exit)) r) ⌝ }
 {
     let a = match desugar_with_env(
-        &s[from..],
+        s,
+        from,
         left,
         place + 1,
         env,
@@ -93,7 +95,7 @@ fn unary(
     let at = top + 3;
     crate::went::settle(&mut *work, a.at, at, a.count);
     let went = Went {
-        used: from + a.used,
+        used: a.used,
         next: a.next,
         at,
         count: a.count,
@@ -117,18 +119,11 @@ fn test_negation(
     ensures { λ r. ⌜ ((q : ReadyOne (now (s .entry)) from left place (env .last) top allowance (now (work .entry)))
         → OneWalked q TestNegation (now (work .exit)) r) ⌝ }
 {
-    let a = match desugar_with_env(&s[from..], left, place + 1, env, &mut *work, top, allowance) {
+    let a = match desugar_with_env(s, from, left, place + 1, env, &mut *work, top, allowance) {
         Walked::Refused(number, at) => return Walked::Refused(number, at),
         Walked::Done(a) => a,
     };
-    let went = Went {
-        used: from + a.used,
-        next: a.next,
-        at: a.at,
-        count: a.count,
-        left: a.left,
-    };
-    crate::went::negate_core(place, work, went)
+    crate::went::negate_core(place, work, a)
 }
 
 // Where the second operand's core goes: behind the first, or in its place.
@@ -158,7 +153,8 @@ fn binary(
         → TwoWalked q (Binary (k .o)) (now (work .exit)) r) ⌝ }
 {
     let a = match desugar_with_env(
-        &s[from..],
+        s,
+        from,
         left,
         place + 1,
         env,
@@ -169,26 +165,18 @@ fn binary(
         Walked::Refused(number, at) => return Walked::Refused(number, at),
         Walked::Done(a) => a,
     };
-    let from2 = from + a.used;
     let at = top + 3;
     crate::went::settle(&mut *work, a.at, at, a.count);
     let dropped = crate::went::drops(kind, work, at, a.count);
     let to = second_at(dropped, top, at + 3 * a.count);
-    let b = match desugar_with_env(&s[from2..], left, a.next, env, &mut *work, to, a.left) {
+    let b = match desugar_with_env(s, a.used, left, a.next, env, &mut *work, to, a.left) {
         Walked::Refused(number, at) => return Walked::Refused(number, at),
         Walked::Done(b) => b,
     };
-    let went = Went {
-        used: from2 + b.used,
-        next: b.next,
-        at: b.at,
-        count: b.count,
-        left: b.left,
-    };
     if dropped {
-        return Walked::Done(went);
+        return Walked::Done(b);
     }
-    crate::went::join(kind, place, work, top, a.count, went)
+    crate::went::join(kind, place, work, top, a.count, b)
 }
 
 // IfThenElse: its condition and its first branch. Room for two records is left below the condition.
@@ -207,7 +195,8 @@ fn if_then_else(
         → ThreeWalked q IfThenElse (now (work .exit)) r) ⌝ }
 {
     let c = match desugar_with_env(
-        &s[from..],
+        s,
+        from,
         left,
         place + 1,
         env,
@@ -218,18 +207,17 @@ fn if_then_else(
         Walked::Refused(number, at) => return Walked::Refused(number, at),
         Walked::Done(c) => c,
     };
-    let from2 = from + c.used;
     let at = top + 6;
     crate::went::settle(&mut *work, c.at, at, c.count);
     let end = at + 3 * c.count;
-    let t = match desugar_with_env(&s[from2..], left, c.next, env, &mut *work, end, c.left) {
+    let t = match desugar_with_env(s, c.used, left, c.next, env, &mut *work, end, c.left) {
         Walked::Refused(number, at) => return Walked::Refused(number, at),
         Walked::Done(t) => t,
     };
     crate::went::settle(&mut *work, t.at, end, t.count);
     otherwise(
         s,
-        from2 + t.used,
+        t.used,
         left,
         place,
         t.next,
@@ -273,18 +261,11 @@ fn otherwise(
         allowance,
     );
     let above = to + 3 * crate::went::negated_size(outcome);
-    let e = match desugar_with_env(&s[from..], left, next, env, &mut *work, above, allowance) {
+    let e = match desugar_with_env(s, from, left, next, env, &mut *work, above, allowance) {
         Walked::Refused(number, at) => return Walked::Refused(number, at),
         Walked::Done(e) => e,
     };
-    let went = Went {
-        used: from + e.used,
-        next: e.next,
-        at: e.at,
-        count: e.count,
-        left: e.left,
-    };
-    crate::went::choose(place, work, top, n, m, outcome, went)
+    crate::went::choose(place, work, top, n, m, outcome, e)
 }
 
 // Let: the definition's core stays below its frame while the body is worked out.
@@ -303,25 +284,14 @@ fn let_variable(
     ensures { λ r. ⌜ ((q : ReadyTwo (now (s .entry)) from left place (env .last) top allowance (now (work .entry)))
         → TwoWalked q (Let name) (now (work .exit)) r) ⌝ }
 {
-    let d = match desugar_with_env(&s[from..], left, place + 1, env, &mut *work, top, allowance) {
+    let d = match desugar_with_env(s, from, left, place + 1, env, &mut *work, top, allowance) {
         Walked::Refused(number, at) => return Walked::Refused(number, at),
         Walked::Done(d) => d,
     };
-    let from2 = from + d.used;
     crate::went::settle(&mut *work, d.at, top, d.count);
     let end = top + 3 * d.count;
     let inner = env.with_variable(&mut *work, end, name, top, d.count);
-    let b = match desugar_with_env(&s[from2..], left, d.next, inner, work, end + 5, d.left) {
-        Walked::Refused(number, at) => return Walked::Refused(number, at),
-        Walked::Done(b) => b,
-    };
-    Walked::Done(Went {
-        used: from2 + b.used,
-        next: b.next,
-        at: b.at,
-        count: b.count,
-        left: b.left,
-    })
+    desugar_with_env(s, d.used, left, d.next, inner, work, end + 5, d.left)
 }
 
 // LetBitRange.
@@ -343,15 +313,5 @@ fn let_bit_range(
         → OneWalked q (LetBitRange name start end) (now (work .exit)) r) ⌝ }
 {
     let inner = env.with_alias(&mut *work, top, name, start, end);
-    let b = match desugar_with_env(&s[from..], left, place + 1, inner, work, top + 5, allowance) {
-        Walked::Refused(number, at) => return Walked::Refused(number, at),
-        Walked::Done(b) => b,
-    };
-    Walked::Done(Went {
-        used: from + b.used,
-        next: b.next,
-        at: b.at,
-        count: b.count,
-        left: b.left,
-    })
+    desugar_with_env(s, from, left, place + 1, inner, work, top + 5, allowance)
 }

@@ -12,7 +12,7 @@ use crate::memory::wide;
 use crate::memory::write_record;
 use crate::test_negation::Outcome;
 
-// The bytes that a term takes, the index of the record behind it, where its core lies and of how many records, and the allowance that is left.
+// The index of the byte behind a term, the index of the record behind it, where its core lies and of how many records, and the allowance that is left.
 pub struct Went {
     pub used: usize,
     pub next: usize,

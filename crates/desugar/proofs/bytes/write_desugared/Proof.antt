@@ -35,7 +35,7 @@ abbrev start : Walked → lts.Start callees reads.Pre reads.Post
 start c = entry c .before
 
 abbrev memory : Walked → List ℕ
-memory c = c .before .before .before .before .before .desugar-with-env .last .1 .1 .1 .1 .0
+memory c = c .before .before .before .before .before .desugar-with-env .last .1 .1 .1 .1 .1 .0
 
 came : (c : Walked) → CameWhole (start c .pre) (bytes (entry c)) (memory c) (c .before .went .given .0 .0)
 came c = walk-came (start c .pre) (bytes (entry c)) (memory c) (c .before .before .before .before .before .before .before .none .ensures) (c .before .went .given .1) (c .before .before .before .before .before .desugar-with-env .ensures)
@@ -55,7 +55,7 @@ same-length c = search needs
 returns : tie.Need-returns
 returns c =
     let k = c .before .before .before .before .before in
-    walk-refused (c .before .before .before .before .before .before .before .before .before .before .before .pre) (bytes (c .before .before .before .before .before .before .before .before .before .before)) (k .desugar-with-env .last .1 .1 .1 .1 .0) (c .before .before .before .before .before .before .before .before .before .before .before .args .out .now) (c .before .before .before .before .before .before .before .none .ensures) (c .before .number .given .1) (k .desugar-with-env .ensures)
+    walk-refused (c .before .before .before .before .before .before .before .before .before .before .before .pre) (bytes (c .before .before .before .before .before .before .before .before .before .before)) (k .desugar-with-env .last .1 .1 .1 .1 .1 .0) (c .before .before .before .before .before .before .before .before .before .before .before .args .out .now) (c .before .before .before .before .before .before .before .none .ensures) (c .before .number .given .1) (k .desugar-with-env .ensures)
 
 enum-known-went : tie.Need-enum-known-went
 enum-known-went c = search needs

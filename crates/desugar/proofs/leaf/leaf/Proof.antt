@@ -29,7 +29,7 @@ same-length c = search needs
 returns : tie.Need-returns
 returns c =
     let a = c .before .before .before .before .before .before .before .args in
-    λ e ρ n b. same-walk (a .head .size) (a .place + 1) (a .top) (a .allowance) 0 (a .work .now) (c .before .before .variable .last .1 .1 .1 .0) (c .before .before .variable .result)
+    λ e ρ n b. same-walk (a .used) (a .place + 1) (a .top) (a .allowance) 0 (a .work .now) (c .before .before .variable .last .1 .1 .1 .1 .0) (c .before .before .variable .result)
     (ap (λ (t : Expr). desugar ρ t (a .place) (left (a .allowance))) (sym (variable-is (recordOf (a .s .now) (a .head)) e (c .before .before .before .before .match .keys1) n)))
     (c .before .before .variable .ensures ρ b)
 
@@ -39,7 +39,7 @@ same-length-2 c = search needs
 returns-2 : tie.Need-returns-2
 returns-2 c =
     let a = c .before .before .before .before .before .before .before .before .args in
-    λ e ρ n b. same-walk (a .head .size) (a .place + 1) (a .top) (a .allowance) 0 (a .work .now) (c .before .before .plain .last .1 .1 .0) (c .before .before .plain .result)
+    λ e ρ n b. same-walk (a .used) (a .place + 1) (a .top) (a .allowance) 0 (a .work .now) (c .before .before .plain .last .1 .1 .1 .0) (c .before .before .plain .result)
     (ap (λ (t : Expr). desugar ρ t (a .place) (left (a .allowance))) (sym (plain-is (recordOf (a .s .now) (a .head)) e (omega (arith, c .before .before .before .before .if1 .taken)) n)))
     (c .before .before .plain .ensures (a .s .now) ρ)
 
@@ -49,7 +49,7 @@ same-length-3 c = search needs
 returns-3 : tie.Need-returns-3
 returns-3 c =
     let a = c .before .before .before .before .before .before .before .before .args in
-    λ e ρ n b. same-walk (a .head .size) (a .place + 1) (a .top) (a .allowance) 0 (a .work .now) (c .before .before .ranged .last .1 .1 .1 .1 .0) (c .before .before .ranged .result)
+    λ e ρ n b. same-walk (a .used) (a .place + 1) (a .top) (a .allowance) 0 (a .work .now) (c .before .before .ranged .last .1 .1 .1 .1 .1 .0) (c .before .before .ranged .result)
     (ap (λ (t : Expr). desugar ρ t (a .place) (left (a .allowance))) (sym (ranged-is (recordOf (a .s .now) (a .head)) e (omega (arith, c .before .before .before .before .if1 .left)) (c .before .before .before .before .before .before .before .before .pre .kind) (c .before .before .before .before .before .match .rest .1) n)))
     (c .before .before .ranged .ensures ρ b)
 

@@ -15,11 +15,11 @@ returns c = λ s ρ. too-large (leaf (atomOf (recordOf s (c .before .before .arg
 write-atom-requires : tie.Need-write-atom-requires
 write-atom-requires c κs = search needs
 
-add-t10 : tie.Need-add-t10
-add-t10 c = search needs
+add-t11 : tie.Need-add-t11
+add-t11 c = search needs
 
-sub-t11 : tie.Need-sub-t11
-sub-t11 c = search needs
+sub-t12 : tie.Need-sub-t12
+sub-t12 c = search needs
 
 same-length : tie.Need-same-length
 same-length c = search needs
@@ -27,8 +27,8 @@ same-length c = search needs
 returns-2 : tie.Need-returns-2
 returns-2 c =
     let a = c .before .before .before .before .before .before .args in
-    λ s ρ. came-stored (leaf (atomOf (recordOf s (a .head)))) (a .place) (a .allowance) 1 refl (omega (arith, c .before .before .before .before .if1 .left)) (a .head .size) _ (a .top) (a .work .now) _ (c .before .before .before .before .before .before .pre .1 .room)
+    λ s ρ. came-stored (leaf (atomOf (recordOf s (a .head)))) (a .place) (a .allowance) 1 refl (omega (arith, c .before .before .before .before .if1 .left)) (a .used) _ (a .top) (a .work .now) _ (c .before .before .before .before .before .before .pre .1 .room)
     (c .before .before .write-atom .ensures s)
 
 pub plain-spec : {M : Type 1} → statement M
-plain-spec = tie.close (tie.spec returns write-atom-requires add-t10 sub-t11 same-length returns-2)
+plain-spec = tie.close (tie.spec returns write-atom-requires add-t11 sub-t12 same-length returns-2)

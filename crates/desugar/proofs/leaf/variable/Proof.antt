@@ -55,8 +55,8 @@ copy-requires c κs =
       apart = inr (omega (arith, f .below, p .below));
     }
 
-add-t21 : tie.Need-add-t21
-add-t21 c = search needs
+add-t22 : tie.Need-add-t22
+add-t22 c = search needs
 
 same-length-2 : tie.Need-same-length-2
 same-length-2 c = search needs
@@ -87,7 +87,7 @@ returns-4 c =
     λ ρ b.
     let f = core-found (a .work .now) (a .env .last) (lookupVariable ρ (a .head .name)) (c .before .before .before .before .before .before .before .before .lookup-variable .result) (c .before .before .before .before .before .before .at .given .0 .0) (c .before .before .before .before .before .before .at .given .0 .1 .0) (c .before .before .before .before .before .before .before .before .lookup-variable .ensures ρ b) (c .before .before .before .before .before .before .at .given .1) in
     same-came (variable-drawn ρ (a .head .name) (a .place) (left (a .allowance)) (f .core) (f .is))
-    (came (f .core) (a .place) (a .allowance) (c .before .before .before .before .before .before .at .given .0 .1 .0) (f .lies .count) (c .before .before .before .before .if1 .left) (a .head .size) _ (a .top) (a .work .now) _
+    (came (f .core) (a .place) (a .allowance) (c .before .before .before .before .before .before .at .given .0 .1 .0) (f .lies .count) (c .before .before .before .before .if1 .left) (a .used) _ (a .top) (a .work .now) _
     (c .before .before .copy .ensures .1 .0 (words (f .core)) (omega (arith, length-words (f .core), f .lies .count)) (f .lies .holds)) (c .before .before .copy .ensures .0))
 
 pub variable-spec : {M : Type 1} → statement M
@@ -104,7 +104,7 @@ variable-spec =
     returns
     mul-copy
     copy-requires
-    add-t21
+    add-t22
     same-length-2
     returns-2
     same-length-3

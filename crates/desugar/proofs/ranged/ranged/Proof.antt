@@ -68,7 +68,7 @@ returns-2 c = let a = c .before .before .before .before .before .before .before 
     let h = recordOf (a .s .now) (a .head) in
     let r : ℕ × ℕ = (c .before .before .before .before .before .before .before .start .given .0 .0, c .before .before .before .before .before .before .before .start .given .0 .1 .0) in
     λ ρ b.
-    same-walk (a .head .size) (a .place + 1) (a .top) (a .allowance) 0 (a .work .now) (c .before .before .use-core .last .1 .1 .1 .1 .1 .1 .0) (c .before .before .use-core .result)
+    same-walk (a .used) (a .place + 1) (a .top) (a .allowance) 0 (a .work .now) (c .before .before .use-core .last .1 .1 .1 .1 .1 .1 .1 .0) (c .before .before .use-core .result)
     (range-drawn ρ (whereOf h) (useOf h) (a .place) (left (a .allowance)) (sym (c .before .before .before .before .before .before .before .before .before .judged-range .ensures ρ (a .place) b) ∙ ap (λ j. judgedAnswer j (a .place)) (c .before .before .before .before .before .before .before .start .given .1)) .1
     ∙ ap (λ (q : Record). useDrawn (useOf q) r (a .place) (left (a .allowance))) (sym (record-is (a .s .now) (a .head))))
     (c .before .before .use-core .ensures)

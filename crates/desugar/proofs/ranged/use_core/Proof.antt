@@ -38,11 +38,11 @@ write-use-requires c κs = let a = c .before .before .before .before .before .be
       record { room = omega (arith, c .before .before .use-size .ensures (a .start), c .before .if1 .left, c .before .before .before .before .before .before .before .pre .1 .room); fields = omega (arith, c .before .before .before .wide .ensures, order) },
     )
 
-add-t19 : tie.Need-add-t19
-add-t19 c = search needs
+add-t20 : tie.Need-add-t20
+add-t20 c = search needs
 
-sub-t20 : tie.Need-sub-t20
-sub-t20 c = search needs
+sub-t21 : tie.Need-sub-t21
+sub-t21 c = search needs
 
 same-length : tie.Need-same-length
 same-length c = search needs
@@ -53,7 +53,7 @@ returns-2 c = let a = c .before .before .before .before .before .before .before 
     same-came
     (fields-drawn (useOf h) (a .start) (a .end) (c .before .before .before .before .before .before .wide .result) (a .place) (left (a .allowance)) (c .before .before .before .before .before .before .wide .ensures))
     (came-stored (useCore (useOf h) (a .start) (c .before .before .before .before .before .before .wide .result)) (a .place) (a .allowance) (c .before .before .before .before .before .use-size .result) (c .before .before .before .before .before .use-size .ensures (a .start)) (c .before .before .before .before .if1 .left)
-    (a .head .size) _ (a .top) (a .work .now) _ (c .before .before .before .before .before .before .before .before .before .before .pre .1 .room) (c .before .before .write-use .ensures))
+    (a .used) _ (a .top) (a .work .now) _ (c .before .before .before .before .before .before .before .before .before .before .pre .1 .room) (c .before .before .write-use .ensures))
 
 pub use-core-spec : {M : Type 1} → statement M
 use-core-spec =
@@ -64,7 +64,7 @@ use-core-spec =
     use-size-requires
     returns
     write-use-requires
-    add-t19
-    sub-t20
+    add-t20
+    sub-t21
     same-length
     returns-2)

@@ -44,7 +44,7 @@ abbrev pub μ-binary : Measures 2 binary-kinds.ps ℕ
 μ-binary κs a = 4 * a .1 .1 .1 .0 + 3
 
 abbrev pub μ-desugar-with-env : Measures 2 desugar-with-env-kinds.ps ℕ
-μ-desugar-with-env κs a = 4 * a .1 .0
+μ-desugar-with-env κs a = 4 * a .1 .1 .0
 
 abbrev pub μ-if-then-else : Measures 2 if-then-else-kinds.ps ℕ
 μ-if-then-else κs a = 4 * a .1 .1 .0 + 3

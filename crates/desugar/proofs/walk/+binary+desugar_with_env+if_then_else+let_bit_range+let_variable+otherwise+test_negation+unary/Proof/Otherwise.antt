@@ -3,19 +3,18 @@ use borrow.Author.Needs.{needs}
 use native.Mathlib.Omega.{arith}
 use mathlib.Core.Path.{ap}
 use mathlib.Core.Logic.{inr}
-use mathlib.Core.List.{List, []}
+use mathlib.Core.List.{List}
 use Prim.Native.Nat.{ℕ, _+_, _*_}
 use lib.ListN.{length}
 use Rattle.expr.specs.Terms.{records}
 use Rattle.expr.specs.Form.{encode}
-use Rattle.expr.proofs.Slices.{part}
 use Rattle.desugar.specs.Meter.{left}
 use Rattle.desugar.specs.Desugar.{desugar}
 use Rattle.desugar.specs.declared.went.Went.{Went}
 use Rattle.desugar.specs.Memory.{Kept}
 use Rattle.desugar.specs.NegationOutcome.{Negates}
 use Rattle.desugar.specs.WalkWords.{Came, Ready, ReadyElse}
-use Rattle.desugar.proofs.WalkLaws.{used-inside, came, stopped, then-refused}
+use Rattle.desugar.proofs.WalkLaws.{came, stopped, then-refused}
 use Rattle.desugar.proofs.IfSteps.{negation-layout, small, other-ready, branch-room, other-done}
 use Rattle.desugar.proofs.walk.otherwise.Reads as otherwise
 use Rattle.desugar.proofs.walk.+binary+desugar_with_env+if_then_else+let_bit_range+let_variable+otherwise+test_negation+unary.Lts-otherwise as otherwise-lts
@@ -47,7 +46,7 @@ module _ (t : ℕ) where
   negates : (c : Neg) (q : Q (start c)) → Negates (m₁ c) (q .condition-core) (at (start c)) (start c .args .allowance) (c .before .before .before .negation .result)
   negates c q = c .before .before .before .negation .ensures .1 (q .condition-core) (q .condition)
 
-  abbrev other : (c : Neg) (q : Q (start c)) → Ready (part (start c .args .from) (start c .args .s .now)) (start c .args .left) (start c .args .next) (start c .args .env .last) (at (start c) + 3 * c .negated-size .result) (start c .args .allowance) (m₁ c)
+  abbrev other : (c : Neg) (q : Q (start c)) → Ready (start c .args .s .now) (start c .args .from) (start c .args .left) (start c .args .next) (start c .args .env .last) (at (start c) + 3 * c .negated-size .result) (start c .args .allowance) (m₁ c)
   other c q = other-ready (start c .args .place) q (kept c) (negates c q) (at (start c) + 3 * c .negated-size .result) (ap (λ n. at (start c) + 3 * n) (c .negated-size .ensures))
 
   -- the other branch is there
@@ -55,15 +54,15 @@ module _ (t : ℕ) where
   Had = otherwise-lts.After-known-told2 (otherwise-claims t) (otherwise-at t) otherwise.Post
 
   abbrev neg : Had → Neg
-  neg c = c .before .before .before .before .before .before .before .before
+  neg c = c .before .before .before .before .before .before .before
 
   abbrev went : Had → Went
   went c = c .before .e .given .0 .0
 
   abbrev m₂ : Had → List ℕ
-  m₂ c = c .before .before .before .before .before .desugar-with-env .last .1 .1 .1 .1 .0
+  m₂ c = c .before .before .before .before .before .desugar-with-env .last .1 .1 .1 .1 .1 .0
 
-  came-at : (c : Had) (q : Q (start (neg c))) → Came (desugar (q .env) (q .third) (start (neg c) .args .next) (left (start (neg c) .args .allowance))) (length (encode (q .third))) (start (neg c) .args .next + records (q .third)) (at (start (neg c)) + 3 * neg c .negated-size .result) (start (neg c) .args .allowance) (start (neg c) .args .left) (m₁ (neg c)) (m₂ c) (went c)
+  came-at : (c : Had) (q : Q (start (neg c))) → Came (desugar (q .env) (q .third) (start (neg c) .args .next) (left (start (neg c) .args .allowance))) (start (neg c) .args .from + length (encode (q .third))) (start (neg c) .args .next + records (q .third)) (at (start (neg c)) + 3 * neg c .negated-size .result) (start (neg c) .args .allowance) (start (neg c) .args .left) (m₁ (neg c)) (m₂ c) (went c)
   came-at c q = came (m₂ c) _ (other (neg c) q) (c .before .before .before .before .before .desugar-with-env .ensures) (c .before .e .given .1)
 
   pub otherwise-add-to : otherwise-lts.Need-add-to (otherwise-claims t) (otherwise-at t) otherwise.Post
@@ -102,17 +101,8 @@ module _ (t : ℕ) where
   pub otherwise-add-above : otherwise-lts.Need-add-above (otherwise-claims t) (otherwise-at t) otherwise.Post
   otherwise-add-above c = let q = c .before .before .before .before .before .before .before .pre .1 in omega (arith, small (c .before .before .before .before .before .before .before .args .place) q (kept c) (negates c q), c .negated-size .ensures, q .small)
 
-  pub otherwise-sub-desugar-with-env : otherwise-lts.Need-sub-desugar-with-env (otherwise-claims t) (otherwise-at t) otherwise.Post
-  otherwise-sub-desugar-with-env c = search needs
-
-  pub otherwise-part-desugar-with-env-start : otherwise-lts.Need-part-desugar-with-env-start (otherwise-claims t) (otherwise-at t) otherwise.Post
-  otherwise-part-desugar-with-env-start c = search needs
-
-  pub otherwise-part-desugar-with-env-end : otherwise-lts.Need-part-desugar-with-env-end (otherwise-claims t) (otherwise-at t) otherwise.Post
-  otherwise-part-desugar-with-env-end c = search needs
-
   pub otherwise-desugar-with-env-requires : otherwise-lts.Need-desugar-with-env-requires (otherwise-claims t) (otherwise-at t) otherwise.Post
-  otherwise-desugar-with-env-requires c κs = (omega (arith, c .before .before .before .before .before .before .before .before .before .pre .0), other (c .before .before) (c .before .before .before .before .before .before .before .before .before .pre .1))
+  otherwise-desugar-with-env-requires c κs = (omega (arith, c .before .before .before .before .before .before .before .before .pre .0), other (c .before) (c .before .before .before .before .before .before .before .before .pre .1))
 
   pub otherwise-enum-known-number : otherwise-lts.Need-enum-known-number (otherwise-claims t) (otherwise-at t) otherwise.Post
   otherwise-enum-known-number c = search needs
@@ -121,19 +111,16 @@ module _ (t : ℕ) where
   otherwise-same-length c = search needs
 
   pub otherwise-returns : otherwise-lts.Need-returns (otherwise-claims t) (otherwise-at t) otherwise.Post
-  otherwise-returns c = λ q. then-refused _ (stopped _ _ (other (c .before .before .before .before .before .before .before .before) q) (c .before .before .before .before .before .desugar-with-env .ensures) (c .before .number .given .1))
+  otherwise-returns c = λ q. then-refused _ (stopped _ _ (other (c .before .before .before .before .before .before .before) q) (c .before .before .before .before .before .desugar-with-env .ensures) (c .before .number .given .1))
 
   pub otherwise-enum-known-e : otherwise-lts.Need-enum-known-e (otherwise-claims t) (otherwise-at t) otherwise.Post
   otherwise-enum-known-e c = search needs
 
-  pub otherwise-add-t24 : otherwise-lts.Need-add-t24 (otherwise-claims t) (otherwise-at t) otherwise.Post
-  otherwise-add-t24 c = let q = c .before .before .before .before .before .before .before .before .before .before .before .before .before .before .before .before .pre .1 in omega (arith, c .before .before .before .before .before .before .before .before .before .before .before .before .before .before .before .before .good .0, used-inside (q .third) [] (q .text), came-at (c .before) q .used-is)
-
   pub otherwise-choose-requires : otherwise-lts.Need-choose-requires (otherwise-claims t) (otherwise-at t) otherwise.Post
-  otherwise-choose-requires c κs = let q = c .before .before .before .before .before .before .before .before .before .before .before .before .before .before .before .before .before .pre .1 in branch-room (c .before .before .before .before .before .before .before .before .before .before .before .before .before .before .before .before .before .args .place) q (kept (c .before .before .before .before .before .before .before .before .before .before)) (negates (c .before .before .before .before .before .before .before .before .before .before) q) (ap (λ n. at (c .before .before .before .before .before .before .before .before .before .before .before .before .before .before .before .before .before) + 3 * n) (c .before .before .before .before .before .before .before .before .before .before .negated-size .ensures)) (came-at (c .before .before) q)
+  otherwise-choose-requires c κs = let q = c .before .before .before .before .before .before .before .before .before .before .before .before .before .before .before .pre .1 in branch-room (c .before .before .before .before .before .before .before .before .before .before .before .before .before .before .before .args .place) q (kept (c .before .before .before .before .before .before .before .before)) (negates (c .before .before .before .before .before .before .before .before) q) (ap (λ n. at (c .before .before .before .before .before .before .before .before .before .before .before .before .before .before .before) + 3 * n) (c .before .before .before .before .before .before .before .before .negated-size .ensures)) (came-at (c .before) q)
 
   pub otherwise-same-length-2 : otherwise-lts.Need-same-length-2 (otherwise-claims t) (otherwise-at t) otherwise.Post
   otherwise-same-length-2 c = search needs
 
   pub otherwise-returns-2 : otherwise-lts.Need-returns-2 (otherwise-claims t) (otherwise-at t) otherwise.Post
-  otherwise-returns-2 c = λ q. other-done (c .before .before .before .before .before .before .before .before .before .before .before .before .before .before .before .before .before .before .before .before .args .place) q (kept (c .before .before .before .before .before .before .before .before .before .before .before .before .before)) (negates (c .before .before .before .before .before .before .before .before .before .before .before .before .before) q) (ap (λ n. at (c .before .before .before .before .before .before .before .before .before .before .before .before .before .before .before .before .before .before .before .before) + 3 * n) (c .before .before .before .before .before .before .before .before .before .before .before .before .before .negated-size .ensures)) (came-at (c .before .before .before .before .before) q) (c .before .before .choose .last .1 .0) (c .before .before .choose .result) (c .before .before .choose .ensures)
+  otherwise-returns-2 c = λ q. other-done (c .before .before .before .before .before .before .before .before .before .before .before .before .before .before .before .before .before .before .args .place) q (kept (c .before .before .before .before .before .before .before .before .before .before .before)) (negates (c .before .before .before .before .before .before .before .before .before .before .before) q) (ap (λ n. at (c .before .before .before .before .before .before .before .before .before .before .before .before .before .before .before .before .before .before) + 3 * n) (c .before .before .before .before .before .before .before .before .before .before .before .negated-size .ensures)) (came-at (c .before .before .before .before) q) (c .before .before .choose .last .1 .0) (c .before .before .choose .result) (c .before .before .choose .ensures)

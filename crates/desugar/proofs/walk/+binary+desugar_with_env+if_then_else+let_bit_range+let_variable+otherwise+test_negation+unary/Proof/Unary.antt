@@ -5,8 +5,7 @@ use mathlib.Core.List.{List, []}
 use Prim.Native.Nat.{ℕ, _+_}
 use Rattle.desugar.specs.WalkWords.{Ready, ReadyOne}
 use Rattle.desugar.specs.declared.went.Went.{Went}
-use Rattle.expr.proofs.Slices.{part}
-use Rattle.desugar.proofs.WalkLaws.{used-inside, lies-inside, came, stopped, settled, then-refused}
+use Rattle.desugar.proofs.WalkLaws.{lies-inside, came, stopped, settled, then-refused}
 use Rattle.desugar.proofs.WalkSteps.{first-ready, Arrived, Sunk, unary-done}
 use Rattle.desugar.proofs.walk.unary.Reads as unary
 use Rattle.desugar.proofs.walk.+binary+desugar_with_env+if_then_else+let_bit_range+let_variable+otherwise+test_negation+unary.Lts-unary as unary-lts
@@ -19,7 +18,7 @@ module _ (t : ℕ) where
   abbrev Q : Entry → Type 0
   Q c = ReadyOne (c .args .s .now) (c .args .from) (c .args .left) (c .args .place) (c .args .env .last) (c .args .top) (c .args .allowance) (c .args .work .now)
 
-  abbrev child : (c : Entry) (q : Q c) → Ready (part (c .args .from) (c .args .s .now)) (c .args .left) (c .args .place + 1) (c .args .env .last) (c .args .top + 3) (c .args .allowance) (c .args .work .now)
+  abbrev child : (c : Entry) (q : Q c) → Ready (c .args .s .now) (c .args .from) (c .args .left) (c .args .place + 1) (c .args .env .last) (c .args .top + 3) (c .args .allowance) (c .args .work .now)
   child c q = first-ready (c .args .place) (c .args .top + 3) (q .first) [] (q .text) (q .stack) (omega arith) (omega arith)
 
   -- the operand's core is there
@@ -27,13 +26,13 @@ module _ (t : ℕ) where
   Had = unary-lts.After-known-told2 (unary-claims t) (unary-at t) unary.Post
 
   abbrev start : Had → Entry
-  start c = c .before .before .before .before .before .before .before .before .before .before
+  start c = c .before .before .before .before .before .before .before .before .before
 
   abbrev went : Had → Went
   went c = c .before .a .given .0 .0
 
   abbrev m₁ : Had → List ℕ
-  m₁ c = c .before .before .before .before .before .desugar-with-env .last .1 .1 .1 .1 .0
+  m₁ c = c .before .before .before .before .before .desugar-with-env .last .1 .1 .1 .1 .1 .0
 
   came-at : (c : Had) (q : Q (start c)) → Arrived (start c .args .place) q (m₁ c) (went c) (start c .args .top + 3)
   came-at c q = came (m₁ c) _ (child (start c) q) (c .before .before .before .before .before .desugar-with-env .ensures) (c .before .a .given .1)
@@ -48,15 +47,6 @@ module _ (t : ℕ) where
   sunk : (c : Sat) (q : Q (start (had c))) → Sunk (start (had c) .args .place) q (c .settle .last .0) (went (had c)) (start (had c) .args .top + 3)
   sunk c q = settled (came-at (had c) q) (c .settle .ensures .0) (c .settle .ensures .1)
 
-  pub unary-sub-desugar-with-env : unary-lts.Need-sub-desugar-with-env (unary-claims t) (unary-at t) unary.Post
-  unary-sub-desugar-with-env c = search needs
-
-  pub unary-part-desugar-with-env-start : unary-lts.Need-part-desugar-with-env-start (unary-claims t) (unary-at t) unary.Post
-  unary-part-desugar-with-env-start c = search needs
-
-  pub unary-part-desugar-with-env-end : unary-lts.Need-part-desugar-with-env-end (unary-claims t) (unary-at t) unary.Post
-  unary-part-desugar-with-env-end c = search needs
-
   pub unary-add-desugar-with-env : unary-lts.Need-add-desugar-with-env (unary-claims t) (unary-at t) unary.Post
   unary-add-desugar-with-env c = search needs
 
@@ -64,7 +54,7 @@ module _ (t : ℕ) where
   unary-add-desugar-with-env-2 c = search needs
 
   pub unary-desugar-with-env-requires : unary-lts.Need-desugar-with-env-requires (unary-claims t) (unary-at t) unary.Post
-  unary-desugar-with-env-requires c κs = let s = c .before .before .before .before in (omega (arith, s .pre .0), child s (s .pre .1 .1))
+  unary-desugar-with-env-requires c κs = let s = c .before .before .before in (omega (arith, s .pre .0), child s (s .pre .1 .1))
 
   pub unary-enum-known-number : unary-lts.Need-enum-known-number (unary-claims t) (unary-at t) unary.Post
   unary-enum-known-number c = search needs
@@ -73,7 +63,7 @@ module _ (t : ℕ) where
   unary-same-length c = search needs
 
   pub unary-returns : unary-lts.Need-returns (unary-claims t) (unary-at t) unary.Post
-  unary-returns c = λ k q. then-refused _ (stopped _ _ (child (c .before .before .before .before .before .before .before .before .before .before) q) (c .before .before .before .before .before .desugar-with-env .ensures) (c .before .number .given .1))
+  unary-returns c = λ k q. then-refused _ (stopped _ _ (child (c .before .before .before .before .before .before .before .before .before) q) (c .before .before .before .before .before .desugar-with-env .ensures) (c .before .number .given .1))
 
   pub unary-enum-known-a : unary-lts.Need-enum-known-a (unary-claims t) (unary-at t) unary.Post
   unary-enum-known-a c = search needs
@@ -82,16 +72,13 @@ module _ (t : ℕ) where
   unary-add-at c = search needs
 
   pub unary-settle-requires : unary-lts.Need-settle-requires (unary-claims t) (unary-at t) unary.Post
-  unary-settle-requires c κs = let d = came-at (c .before) (c .before .before .before .before .before .before .before .before .before .before .before .pre .1 .1) in (d .above, lies-inside (d .lies))
-
-  pub unary-add-t18 : unary-lts.Need-add-t18 (unary-claims t) (unary-at t) unary.Post
-  unary-add-t18 c = let q = c .before .before .before .before .before .before .before .before .before .before .before .before .before .before .before .pre .1 .1 in omega (arith, used-inside (q .first) [] (q .text), came-at (c .before .before .before .before .before) q .used-is)
+  unary-settle-requires c κs = let d = came-at (c .before) (c .before .before .before .before .before .before .before .before .before .before .pre .1 .1) in (d .above, lies-inside (d .lies))
 
   pub unary-seal-requires : unary-lts.Need-seal-requires (unary-claims t) (unary-at t) unary.Post
-  unary-seal-requires c κs = let d = sunk (c .before .before .before .before) (c .before .before .before .before .before .before .before .before .before .before .before .before .before .before .before .before .pre .1 .1) in (omega arith, lies-inside (d .lies))
+  unary-seal-requires c κs = let d = sunk (c .before .before .before) (c .before .before .before .before .before .before .before .before .before .before .before .before .before .before .pre .1 .1) in (omega arith, lies-inside (d .lies))
 
   pub unary-same-length-2 : unary-lts.Need-same-length-2 (unary-claims t) (unary-at t) unary.Post
   unary-same-length-2 c = search needs
 
   pub unary-returns-2 : unary-lts.Need-returns-2 (unary-claims t) (unary-at t) unary.Post
-  unary-returns-2 c = λ k q. unary-done (c .before .before .before .before .before .before .before .before .before .before .before .before .before .before .before .before .before .before .before .args .place) q _ (c .before .before .seal .last .1 .1 .0) (c .before .before .seal .result) k (sunk (c .before .before .before .before .before .before .before) q) (c .before .before .seal .ensures)
+  unary-returns-2 c = λ k q. unary-done (c .before .before .before .before .before .before .before .before .before .before .before .before .before .before .before .before .before .args .place) q _ (c .before .before .seal .last .1 .1 .0) (c .before .before .seal .result) k (sunk (c .before .before .before .before .before .before) q) (c .before .before .seal .ensures)
