@@ -7,6 +7,7 @@ pub mod TermForm
 pub mod FormTheorem
 pub mod Substitution
 pub mod Slices
+pub mod Finite
 pub mod ForeignBits
 pub mod Numbers
 pub mod Steps

@@ -4,7 +4,7 @@ ghost use Prim.Native.Nat.{_≤_};
 ghost use lib.ListN.{length};
 ghost use Rattle.expr.specs.Records.{fitsPattern};
 ghost use Rattle.expr.specs.Terms.{testKind};
-ghost use Rattle.expr.specs.Results.{NumberFound, LiteralField, noneForeign, KindFound, RangeFound, PatternFound, RecordFound};
+ghost use Rattle.expr.specs.Results.{NumberFound, LiteralField, kindMap, noneForeign, KindFound, RangeFound, PatternFound, RecordFound};
 use literals::Literal;
 use literals::LiteralRead;
 
@@ -74,36 +74,21 @@ pub enum PatternRead {
     Refused(u8),
 }
 
-// The map bits that each kind has, bit 0 among them.
-const KIND_FIELDS: [u8; 27] = [
-    1,
-    1,
-    1,
-    1,
-    1,
-    37,
-    37,
-    1,
-    1,
-    1,
-    1,
-    1,
-    1,
-    1,
-    1,
-    1,
-    1,
-    1,
-    3,
-    15,
-    3,
-    67,
-    67,
-    77,
-    77,
-    253,
-    243,
-];
+// The map bits that a kind has, bit 0 among them. A `match`, because a constant array is built anew on each call.
+fn kind_fields(kind: u8) -> u8
+    ensures { λ r. ⌜ r ≡ kindMap kind ⌝ }
+{
+    match kind {
+        5..=6 => 37,
+        18 | 20 => 3,
+        19 => 15,
+        21..=22 => 67,
+        23..=24 => 77,
+        25 => 253,
+        26 => 243,
+        _ => 1,
+    }
+}
 
 // Whether a core of this kind is a test where its operands are.
 pub fn is_test_kind(kind: u8) -> bool
@@ -120,7 +105,7 @@ fn none_foreign(kind: u8, map: u8) -> bool
     requires { ⌜ kind ≤ 26 ⌝ }
     ensures { λ r. ⌜ r ≡ noneForeign kind map ⌝ }
 {
-    let fields = KIND_FIELDS[kind as usize];
+    let fields = kind_fields(kind);
     map | fields == fields
 }
 
