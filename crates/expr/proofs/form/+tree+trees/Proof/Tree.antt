@@ -2,7 +2,9 @@
 use borrow.Author.Needs.{needs}
 use native.Mathlib.Omega.{arith}
 use mathlib.Core.Path.{sym}
+use mathlib.Core.List.{List}
 use Prim.Native.Nat.{ℕ}
+use lib.ListN.{drop}
 use Rattle.expr.proofs.Arities.{arity-small}
 use Rattle.expr.proofs.FormSteps.{tree-over, tree-deep, Looked, record-refused, record-inside, record-good}
 use Rattle.expr.proofs.form.tree.Reads as tree
@@ -10,21 +12,42 @@ use Rattle.expr.proofs.form.+tree+trees.Lts-tree as tree-lts
 use Rattle.expr.proofs.form.+tree+trees.Proof.Common.{tree-claims, tree-at}
 
 module _ (t : ℕ) where
+  abbrev Start : Type 0
+  Start = tree-lts.Start (tree-claims t) (tree-at t) tree.Post
+
+  -- the bytes from `at` on
+  abbrev bytes : Start → List ℕ
+  bytes c = drop (c .args .at) (c .args .s .now)
+
   -- a record was looked for
-  looked : (c : tree-lts.After-read-record (tree-claims t) (tree-at t) tree.Post)
-      → Looked (c .before .before .before .before .args .left) (c .before .before .before .before .args .place) (c .before .before .before .before .args .s .now)
-      (c .read-record .result)
-  looked c = record { deep = c .before .if2 .left; low = c .before .before .if1 .left; found = c .read-record .ensures }
+  abbrev Read : Type 0
+  Read = tree-lts.After-read-record (tree-claims t) (tree-at t) tree.Post
+
+  abbrev start : Read → Start
+  start c = c .before .before .before .before .before
+
+  looked : (c : Read) → Looked (start c .args .left) (start c .args .place) (start c .args .at) (start c .args .s .now) (c .read-record .result)
+  looked c =
+      record { deep = c .before .before .if2 .left; low = c .before .before .before .if1 .left; start = start c .pre .1; found = c .read-record .ensures }
 
   pub tree-returns : tree-lts.Need-returns (tree-claims t) (tree-at t) tree.Post
   tree-returns c =
-      let over = tree-over (c .before .before .args .left) (c .before .before .args .place) (c .before .before .args .s .now) (c .if1 .taken) in
+      let over = tree-over (c .before .before .args .left) (c .before .before .args .place) (bytes (c .before .before)) (c .if1 .taken) in
       record { answer = sym over; inside = omega arith }
 
   pub tree-returns-2 : tree-lts.Need-returns-2 (tree-claims t) (tree-at t) tree.Post
   tree-returns-2 c =
-      let deep = tree-deep (c .before .before .before .args .left) (c .before .before .before .args .place) (c .before .before .before .args .s .now) (c .if2 .taken) (c .before .if1 .left) in
+      let deep = tree-deep (c .before .before .before .args .left) (c .before .before .before .args .place) (bytes (c .before .before .before)) (c .if2 .taken) (c .before .if1 .left) in
       record { answer = sym deep; inside = omega arith }
+
+  pub tree-sub-read-record : tree-lts.Need-sub-read-record (tree-claims t) (tree-at t) tree.Post
+  tree-sub-read-record c = search needs
+
+  pub tree-part-read-record-start : tree-lts.Need-part-read-record-start (tree-claims t) (tree-at t) tree.Post
+  tree-part-read-record-start c = search needs
+
+  pub tree-part-read-record-end : tree-lts.Need-part-read-record-end (tree-claims t) (tree-at t) tree.Post
+  tree-part-read-record-end c = search needs
 
   pub tree-read-record-requires : tree-lts.Need-read-record-requires (tree-claims t) (tree-at t) tree.Post
   tree-read-record-requires c κs = search needs
@@ -41,18 +64,21 @@ module _ (t : ℕ) where
   pub tree-arity-requires : tree-lts.Need-arity-requires (tree-claims t) (tree-at t) tree.Post
   tree-arity-requires c κs = search needs
 
+  pub tree-add-trees : tree-lts.Need-add-trees (tree-claims t) (tree-at t) tree.Post
+  tree-add-trees c = omega (arith, record-inside (looked (c .before .before .before .before .before)) (c .before .before .before .head .given .1))
+
   pub tree-sub-trees : tree-lts.Need-sub-trees (tree-claims t) (tree-at t) tree.Post
   tree-sub-trees c = search needs
 
-  pub tree-add-trees : tree-lts.Need-add-trees (tree-claims t) (tree-at t) tree.Post
-  tree-add-trees c = search needs
+  pub tree-add-trees-2 : tree-lts.Need-add-trees-2 (tree-claims t) (tree-at t) tree.Post
+  tree-add-trees-2 c = search needs
 
   pub tree-trees-requires : tree-lts.Need-trees-requires (tree-claims t) (tree-at t) tree.Post
   tree-trees-requires c κs =
-      let few = arity-small (c .before .before .head .given .0 .0 .kind) (c .arity .result) (c .arity .ensures) in (
+      let few = arity-small (c .before .before .before .head .given .0 .0 .kind) (c .before .arity .result) (c .before .arity .ensures) in (
         omega arith,
-        record { few = few; start = record-inside (looked (c .before .before .before .before)) (c .before .before .head .given .1); low = omega arith },
+        record { few = few; start = record-inside (looked (c .before .before .before .before .before)) (c .before .before .before .head .given .1); low = omega arith },
       )
 
   pub tree-returns-4 : tree-lts.Need-returns-4 (tree-claims t) (tree-at t) tree.Post
-  tree-returns-4 c = record-good (looked (c .before .before .before .before .before)) (c .before .before .before .head .given .1) (c .before .arity .ensures) (c .trees .ensures)
+  tree-returns-4 c = record-good (looked (c .before .before .before .before .before .before)) (c .before .before .before .before .head .given .1) (c .before .before .arity .ensures) (c .trees .ensures)
