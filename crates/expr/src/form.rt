@@ -51,8 +51,14 @@ fn tree(s: &[u8], at: usize, left: usize, place: usize) -> Formed
         HeadRead::Refused(number) => return Formed::Refused(number, place),
         HeadRead::Found(head) => head,
     };
+    let behind = at + head.size;
+    let next = place + 1;
     let count = arity(head.kind);
-    trees(s, at + head.size, count, left - 1, place + 1)
+    // trees would answer the same, at the cost of a call.
+    if count == 0 {
+        return Formed::Good(Taken { used: behind, next });
+    }
+    trees(s, behind, count, left - 1, next)
 }
 
 // As many trees as `count`, one behind the other, from the byte `at` on. The bytes before `at` count as used.

@@ -3,10 +3,13 @@ use borrow.Author.Needs.{needs}
 use native.Mathlib.Omega.{arith}
 use mathlib.Core.Path.{sym}
 use mathlib.Core.List.{List}
-use Prim.Native.Nat.{ℕ}
+use Prim.Native.Nat.{ℕ, _+_, _-_}
 use lib.ListN.{drop}
+use Rattle.expr.specs.Results.{treeFrom, treesFrom, TreeFormed, TreesAsked}
+use Rattle.expr.specs.declared.records.Head.{Head}
+use Rattle.expr.specs.declared.form.Formed.{Formed}
 use Rattle.expr.proofs.Arities.{arity-small}
-use Rattle.expr.proofs.FormSteps.{tree-over, tree-deep, Looked, record-refused, record-inside, record-good}
+use Rattle.expr.proofs.FormSteps.{tree-over, tree-deep, Looked, record-refused, record-inside, record-good, no-tree}
 use Rattle.expr.proofs.form.tree.Reads as tree
 use Rattle.expr.proofs.form.+tree+trees.Lts-tree as tree-lts
 use Rattle.expr.proofs.form.+tree+trees.Proof.Common.{tree-claims, tree-at}
@@ -61,24 +64,52 @@ module _ (t : ℕ) where
   pub tree-enum-known-head : tree-lts.Need-enum-known-head (tree-claims t) (tree-at t) tree.Post
   tree-enum-known-head c = search needs
 
+  pub tree-add-behind : tree-lts.Need-add-behind (tree-claims t) (tree-at t) tree.Post
+  tree-add-behind c = omega (arith, record-inside (looked (c .before .before .before .before)) (c .before .before .head .given .1))
+
+  pub tree-add-next : tree-lts.Need-add-next (tree-claims t) (tree-at t) tree.Post
+  tree-add-next c = search needs
+
   pub tree-arity-requires : tree-lts.Need-arity-requires (tree-claims t) (tree-at t) tree.Post
   tree-arity-requires c κs = search needs
 
-  pub tree-add-trees : tree-lts.Need-add-trees (tree-claims t) (tree-at t) tree.Post
-  tree-add-trees c = omega (arith, record-inside (looked (c .before .before .before .before .before)) (c .before .before .before .head .given .1))
+  -- a record was found, and its children are counted
+  abbrev Counted : Type 0
+  Counted = tree-lts.After-arity (tree-claims t) (tree-at t) tree.Post
+
+  abbrev read : Counted → Read
+  read c = c .before .before .before .before .before
+
+  abbrev entry : Counted → Start
+  entry c = start (read c)
+
+  abbrev headOf : Counted → Head
+  headOf c = c .before .before .before .head .given .0 .0
+
+  abbrev behind : Counted → ℕ
+  behind c = entry c .args .at + headOf c .size
+
+  asked : (c : Counted) → TreesAsked (c .arity .result) (behind c) (entry c .args .place + 1) (entry c .args .s .now)
+  asked c =
+      record {
+        few = arity-small (headOf c .kind) (c .arity .result) (c .arity .ensures);
+        start = record-inside (looked (read c)) (c .before .before .before .head .given .1);
+        low = omega (arith, looked (read c) .low);
+      }
+
+  good : (c : Counted) {y : Formed}
+      → TreeFormed (treesFrom (entry c .args .left - 1) (c .arity .result) (entry c .args .place + 1) (drop (behind c) (entry c .args .s .now))) (entry c .args .s .now) y
+      → TreeFormed (treeFrom (entry c .args .left) (entry c .args .place) (bytes (entry c))) (entry c .args .s .now) y
+  good c f = record-good (looked (read c)) (c .before .before .before .head .given .1) (c .arity .ensures) f
+
+  pub tree-returns-4 : tree-lts.Need-returns-4 (tree-claims t) (tree-at t) tree.Post
+  tree-returns-4 c = good (c .before) (no-tree (entry (c .before) .args .left - 1) (c .if3 .taken) (asked (c .before)))
 
   pub tree-sub-trees : tree-lts.Need-sub-trees (tree-claims t) (tree-at t) tree.Post
   tree-sub-trees c = search needs
 
-  pub tree-add-trees-2 : tree-lts.Need-add-trees-2 (tree-claims t) (tree-at t) tree.Post
-  tree-add-trees-2 c = search needs
-
   pub tree-trees-requires : tree-lts.Need-trees-requires (tree-claims t) (tree-at t) tree.Post
-  tree-trees-requires c κs =
-      let few = arity-small (c .before .before .before .head .given .0 .0 .kind) (c .before .arity .result) (c .before .arity .ensures) in (
-        omega arith,
-        record { few = few; start = record-inside (looked (c .before .before .before .before .before)) (c .before .before .before .head .given .1); low = omega arith },
-      )
+  tree-trees-requires c κs = let few = asked (c .before) .few in (omega arith, asked (c .before))
 
-  pub tree-returns-4 : tree-lts.Need-returns-4 (tree-claims t) (tree-at t) tree.Post
-  tree-returns-4 c = record-good (looked (c .before .before .before .before .before .before)) (c .before .before .before .before .head .given .1) (c .before .before .arity .ensures) (c .trees .ensures)
+  pub tree-returns-5 : tree-lts.Need-returns-5 (tree-claims t) (tree-at t) tree.Post
+  tree-returns-5 c = good (c .before .before) (c .trees .ensures)
