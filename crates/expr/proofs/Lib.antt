@@ -12,6 +12,7 @@ pub mod ForeignBits
 pub mod Numbers
 pub mod Steps
 pub mod Stages
+pub mod BareRecord
 pub mod Arities
 pub mod FormSteps
 pub mod Scans

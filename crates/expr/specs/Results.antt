@@ -146,6 +146,12 @@ abbrev pub HeadInside : List ℕ → HeadRead → Type 0
 HeadInside s (head.Found h) = (1 ≤ h .size) × (h .size ≤ length s) × (h .a .at + bytesFor (h .a .bits) ≤ length s) × (h .b .at + bytesFor (h .b .bits) ≤ length s) × (h .a .bits ≤ maxLiteral) × (h .b .bits ≤ maxLiteral)
 HeadInside s (head.Refused r) = r ≤ 5
 
+-- the head of a record that is the kind k alone, in two bytes, whatever stands behind them
+pub record BareHead (k : ℕ) (h : Head) : Type 0 where
+  pub same : (s : List ℕ) → recordOf s h ≡ plainRecord k
+  pub size : h .size ≡ 2
+  pub inside : (s : List ℕ) → 2 ≤ length s → HeadInside s (head.Found h)
+
 pub record RecordFound (s : List ℕ) (r : HeadRead) : Type 0 where
   pub answer : headAnswer s r ≡ readRecord s
   pub inside : HeadInside s r

@@ -4,7 +4,7 @@ ghost use Prim.Native.Nat.{_≤_};
 ghost use lib.ListN.{length};
 ghost use Rattle.expr.specs.Records.{fitsPattern};
 ghost use Rattle.expr.specs.Terms.{testKind};
-ghost use Rattle.expr.specs.Results.{NumberFound, LiteralField, kindMap, noneForeign, KindFound, RangeFound, PatternFound, RecordFound};
+ghost use Rattle.expr.specs.Results.{NumberFound, LiteralField, kindMap, noneForeign, KindFound, RangeFound, PatternFound, BareHead, RecordFound};
 use literals::Literal;
 use literals::LiteralRead;
 
@@ -278,7 +278,29 @@ fn read_pattern(s: &[u8], map: u8, kind: u8, at: usize) -> PatternRead
     })
 }
 
-// The record at the front of the bytes.
+// The head of a record that is a kind alone: bit 0 is its whole map.
+fn bare(kind: u8) -> Head
+    ensures { λ r. ⌜ BareHead kind r ⌝ }
+{
+    let none = Literal {
+        at: 2,
+        bits: 0,
+        next: 2,
+    };
+    Head {
+        kind,
+        name: 0,
+        start: 0,
+        end: 0,
+        pattern: 0,
+        number: 0,
+        a: none,
+        b: none,
+        size: 2,
+    }
+}
+
+// The record at the front of the bytes. One that is a kind alone, as operators are, answers without a look at each field.
 pub fn read_record(s: &[u8]) -> HeadRead
     ensures { λ r. ⌜ RecordFound (now (s .entry)) r ⌝ }
 {
@@ -286,6 +308,9 @@ pub fn read_record(s: &[u8]) -> HeadRead
         KindRead::Refused(number) => return HeadRead::Refused(number),
         KindRead::Found(k) => k,
     };
+    if k.map == 1 {
+        return HeadRead::Found(bare(k.kind));
+    }
     let range = match read_range(s, k.map, k.next) {
         RangeRead::Refused(number) => return HeadRead::Refused(number),
         RangeRead::Found(range) => range,
