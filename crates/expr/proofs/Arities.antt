@@ -1,36 +1,20 @@
 -- How many children a record of a kind has, by ranges of kinds.
 use mathlib.Core.Path.{_≡_, refl, sym, ap, subst, _∙_}
-use mathlib.Core.Bool.{Bool, true, _&&_}
-use Prim.Native.Nat.{ℕ, zero, suc, _+_, _-_, _≤_, _<_}
+use mathlib.Core.Bool.{true}
+use Prim.Native.Nat.{ℕ, _+_, _≤_, _<_}
 use native.Mathlib.Omega.{arith}
 use native.Mathlib.Decide.{decLt}
 use lib.Dec.{eqb}
 use lib.ListN.{List·getD-eq-default, List·getD-map}
-use Rattle.literals.proofs.Logic.{eqb-is, and-left, and-right}
 use Rattle.expr.specs.Terms.{Plain, Zero}
 use Rattle.expr.specs.Records.{Record}
 use Rattle.expr.specs.Form.{Node, node0, node1, node2, node3, nodes, nodeOf, plainRecord}
 use Rattle.expr.specs.Results.{childCount, arityOf}
-
-abbrev allBelow : ℕ → (ℕ → Bool) → Bool
-allBelow zero p = true
-allBelow (suc n) p = p n && allBelow n p
-
-below : (n : ℕ) (p : ℕ → Bool) → allBelow n p ≡ true → (i : ℕ) → i < n → p i ≡ true
-below zero p h i l = absurd (omega arith)
-below (suc n) p h i l = go (decLt i n) (below n p (and-right (p n) (allBelow n p) h) i)
-  where
-    go : Dec (i < n) → (i < n → p i ≡ true) → p i ≡ true
-    go (yes k) each = each k
-    go (no k) each =
-        let e : i ≡ n = omega arith in
-        ap p e ∙ and-left (p n) (allBelow n p) h
+use Rattle.expr.proofs.Finite.{allBelow, same-in}
 
 -- n kinds from a first one on that have r children each
 pub arity-in : (first n r : ℕ) → allBelow n (λ i. eqb (arityOf (first + i)) r) ≡ true → (k : ℕ) → first ≤ k → k < first + n → r ≡ arityOf k
-arity-in first n r h k l m =
-    let e : first + (k - first) ≡ k = omega arith in
-    subst (λ j. r ≡ arityOf j) e (sym (eqb-is (arityOf (first + (k - first))) r .0 (below n (λ i. eqb (arityOf (first + i)) r) h (k - first) (omega arith))))
+arity-in = same-in arityOf
 
 -- kinds 20 to 26 have no child, and what is no kind has none
 pub arity-past : (k : ℕ) → 20 ≤ k → 0 ≡ arityOf k

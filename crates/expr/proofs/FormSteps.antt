@@ -58,32 +58,36 @@ children-left d (node3 f) at s =
     left-then (parse d (a .next) (a .rest)) _ _ (λ b.
     left-then (parse d (b .next) (b .rest)) _ _ (λ c. refl)))
 
--- a record was looked for at the front of the bytes
-pub record Looked (d at : ℕ) (s : List ℕ) (x : HeadRead) : Type 0 where
+-- a record was looked for, from the byte a on
+pub record Looked (d at a : ℕ) (s : List ℕ) (x : HeadRead) : Type 0 where
   pub deep : d ≡ 0 → ⊥
   pub low : at < maxRecords
-  pub found : RecordFound s x
+  pub start : a ≤ length s
+  pub found : RecordFound (part a s) x
 
-module _ {d at : ℕ} {s : List ℕ} {x : HeadRead} (k : Looked d at s x) where
+module _ {d at a : ℕ} {s : List ℕ} {x : HeadRead} (k : Looked d at a s x) where
+  -- what the call on the part says, of the rest of the bytes
+  read : {y : HeadRead} → x ≡ y → RecordFound (drop a s) y
+  read e = subst (RecordFound _) e (subst (λ (l : List ℕ). RecordFound l x) (part-is a s) (k .found))
+
   -- what was found is what the tree begins with
-  begins : {y : HeadRead} → x ≡ y → mapAnswer left (nodeAt (parse (d - 1)) at (headAnswer s y)) ≡ treeFrom d at s
-  begins e =
-      ap (λ z. mapAnswer left (nodeAt (parse (d - 1)) at z)) (subst (RecordFound s) e (k .found) .answer) ∙ sym (tree-step d at s (k .deep) (k .low))
+  begins : {y : HeadRead} → x ≡ y → mapAnswer left (nodeAt (parse (d - 1)) at (headAnswer (drop a s) y)) ≡ treeFrom d at (drop a s)
+  begins e = ap (λ z. mapAnswer left (nodeAt (parse (d - 1)) at z)) (read e .answer) ∙ sym (tree-step d at (drop a s) (k .deep) (k .low))
 
-  pub record-refused : {r : ℕ} → x ≡ head.Refused r → TreeFormed (treeFrom d at s) s (Refused r at)
-  record-refused e = record { answer = begins e; inside = omega (arith, subst (RecordFound s) e (k .found) .inside) }
+  pub record-refused : {r : ℕ} → x ≡ head.Refused r → TreeFormed (treeFrom d at (drop a s)) s (Refused r at)
+  record-refused e = record { answer = begins e; inside = omega (arith, read e .inside) }
 
-  pub record-inside : {h : Head} → x ≡ head.Found h → h .size ≤ length s
-  record-inside e = subst (RecordFound s) e (k .found) .inside .1
+  pub record-inside : {h : Head} → x ≡ head.Found h → a + h .size ≤ length s
+  record-inside e = omega (arith, read e .inside .1, length-drop a s, k .start)
 
   -- the answer on the children is the answer on the tree
   pub record-good : {h : Head} {n : ℕ} {y : Formed} → x ≡ head.Found h → n ≡ arityOf (h .kind)
-      → TreeFormed (treesFrom (d - 1) n (at + 1) (drop (h .size) s)) s y → TreeFormed (treeFrom d at s) s y
+      → TreeFormed (treesFrom (d - 1) n (at + 1) (drop (a + h .size) s)) s y → TreeFormed (treeFrom d at (drop a s)) s y
   record-good {h} {n} {y} e m f =
-      let behind : List ℕ = drop (h .size) s in
+      let found = recordOf (drop a s) h in
       subst (λ z. TreeFormed z s y)
-      (ap (λ i. treesFrom (d - 1) i (at + 1) behind) (m ∙ sym (arity-is (recordOf s h)))
-      ∙ sym (children-left (d - 1) (nodeOf (recordOf s h)) (at + 1) behind) ∙ begins e)
+      ((λ i. treesFrom (d - 1) ((m ∙ sym (arity-is found)) i) (at + 1) (sym (drop-drop (h .size) a s) i))
+      ∙ sym (children-left (d - 1) (nodeOf found) (at + 1) (drop (h .size) (drop a s))) ∙ begins e)
       f
 
 -- ## One tree of several
@@ -97,31 +101,25 @@ trees-step : (d n at : ℕ) (bs : List ℕ) → (n ≡ 0 → ⊥) → treesFrom 
 trees-step d zero at bs f = absurd (f refl)
 trees-step d (suc n) at bs f = rw (sub-one (suc n))
 
--- the first of n trees was looked for, from the byte a on
-pub record Begun (d n at a : ℕ) (s : List ℕ) (x : Formed) : Type 0 where
+-- the first of n trees was looked for, at the front of the bytes bs that are left of s
+pub record Begun (d n at : ℕ) (bs s : List ℕ) (x : Formed) : Type 0 where
   pub some : n ≡ 0 → ⊥
-  pub start : a ≤ length s
-  pub formed : TreeFormed (treeFrom d at (part a s)) (part a s) x
+  pub formed : TreeFormed (treeFrom d at bs) s x
 
-module _ {d n at a : ℕ} {s : List ℕ} {x : Formed} (k : Begun d n at a s x) where
-  -- what the call on the part says, of the rest of the bytes
-  first : {y : Formed} → x ≡ y → TreeFormed (treeFrom d at (drop a s)) (drop a s) y
-  first e = subst (TreeFormed _ _) e (subst (λ (l : List ℕ). TreeFormed (treeFrom d at l) l x) (part-is a s) (k .formed))
+module _ {d n at : ℕ} {bs s : List ℕ} {x : Formed} (k : Begun d n at bs s x) where
+  pub first : {y : Formed} → x ≡ y → TreeFormed (treeFrom d at bs) s y
+  first e = subst (TreeFormed _ s) e (k .formed)
 
-  others : {y : Formed} → x ≡ y → andThen (treeAnswer (drop a s) y) (λ r. treesFrom d (n - 1) (r .0) (r .1)) ≡ treesFrom d n at (drop a s)
-  others e = ap (λ (z : Answer (ℕ × List ℕ)). andThen z (λ r. treesFrom d (n - 1) (r .0) (r .1))) (first e .answer) ∙ sym (trees-step d n at (drop a s) (k .some))
+  others : {y : Formed} → x ≡ y → andThen (treeAnswer s y) (λ r. treesFrom d (n - 1) (r .0) (r .1)) ≡ treesFrom d n at bs
+  others e = ap (λ (z : Answer (ℕ × List ℕ)). andThen z (λ r. treesFrom d (n - 1) (r .0) (r .1))) (first e .answer) ∙ sym (trees-step d n at bs (k .some))
 
-  pub first-refused : {r p : ℕ} → x ≡ Refused r p → TreeFormed (treesFrom d n at (drop a s)) s (Refused r p)
+  pub first-refused : {r p : ℕ} → x ≡ Refused r p → TreeFormed (treesFrom d n at bs) s (Refused r p)
   first-refused e = record { answer = others e; inside = first e .inside }
 
-  pub first-inside : {t : Taken} → x ≡ Good t → (a + t .used ≤ length s) × (t .next ≤ maxRecords)
-  first-inside e = (omega (arith, first e .inside .0, length-drop a s, k .start), first e .inside .1)
-
   -- the answer on the others is the answer on all
-  pub first-good : {t : Taken} {y : Formed} → x ≡ Good t → TreeFormed (treesFrom d (n - 1) (t .next) (drop (a + t .used) s)) s y
-      → TreeFormed (treesFrom d n at (drop a s)) s y
-  first-good {t} {y} e f =
-      subst (λ z. TreeFormed z s y) (ap (treesFrom d (n - 1) (t .next)) (sym (drop-drop (t .used) a s)) ∙ others e) f
+  pub first-good : {t : Taken} {y : Formed} → x ≡ Good t → TreeFormed (treesFrom d (n - 1) (t .next) (drop (t .used) s)) s y
+      → TreeFormed (treesFrom d n at bs) s y
+  first-good {t} {y} e f = subst (λ z. TreeFormed z s y) (others e) f
 
 -- ## The whole term
 

@@ -7,10 +7,12 @@ pub mod TermForm
 pub mod FormTheorem
 pub mod Substitution
 pub mod Slices
+pub mod Finite
 pub mod ForeignBits
 pub mod Numbers
 pub mod Steps
 pub mod Stages
+pub mod BareRecord
 pub mod Arities
 pub mod FormSteps
 pub mod Scans

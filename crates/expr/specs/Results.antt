@@ -1,10 +1,10 @@
 -- What the functions of this crate answer, in the words of the definitions.
 use mathlib.Core.{Path._≡_, Bool.Bool, Bool.cond, Bool._||_, List.List, List.[], List._∷_, Bool._&&_, Option.Option, Option.none, Option.some}
 use Prim.Native.Nat.{ℕ, _+_, _^_, _≤_, _<_, zero, suc}
-use lib.{Dec.leb, ListN.length, ListN.take, ListN.drop, Dec.ltb, Dec.eqb}
+use lib.{Dec.leb, ListN.length, ListN.getD, ListN.take, ListN.drop, Dec.ltb, Dec.eqb}
 use Rattle.literals.specs.{Bits.bitAt, Bits.unpack, Reading.Read, Reading.got, Reading.fault, Reading.Reads, Reading._>>=_, Reading.give, Reading.ask, Reading.byte, Reading.nonzero, Reading.literal, Reading.maxLiteral, Reading.bytesFor, Results.literalAnswer, Results.LiteralInside}
 use Rattle.literals.specs.declared.LiteralRead.{LiteralRead}
-use Rattle.expr.specs.{Answers.Answer, Answers.ok, Answers.refuse, Answers.mapAnswer, Terms.Expr, Terms.records, Records.Record, Records.noneLacks, Records.isMatch, Records.fitsPattern, Records.readRecord, Form.maxRecords, Form.Node, Form.nodeOf, Form.node0, Form.node1, Form.node2, Form.node3, Form.parse, Answers.andThen, Form.plainRecord, Terms.testKind, Form.decode, Operations.isTestFragment, Operations.numFields}
+use Rattle.expr.specs.{Answers.Answer, Answers.ok, Answers.refuse, Answers.mapAnswer, Terms.Expr, Terms.records, Records.Record, Records.kindFields, Records.noneLacks, Records.isMatch, Records.fitsPattern, Records.readRecord, Form.maxRecords, Form.Node, Form.nodeOf, Form.node0, Form.node1, Form.node2, Form.node3, Form.parse, Answers.andThen, Form.plainRecord, Terms.testKind, Form.decode, Operations.isTestFragment, Operations.numFields}
 use Rattle.expr.specs.declared.records.Head.{Head}
 use Rattle.expr.specs.declared.records.HeadRead.{HeadRead}
 use Rattle.expr.specs.declared.records.NumberRead.{NumberRead}
@@ -47,6 +47,15 @@ pub record LiteralField (b : Bool) (at : ℕ) (s : List ℕ) (r : LiteralRead) :
   pub inside : LiteralInside s at r
 
 -- ## The parts of a record
+
+-- the map in which these bits stand
+abbrev pub mapWith : List ℕ → ℕ
+mapWith [] = 0
+mapWith (i ∷ is) = 2 ^ i + mapWith is
+
+-- the map bits that a kind has, bit 0 among them
+abbrev pub kindMap : ℕ → ℕ
+kindMap k = mapWith (0 ∷ getD kindFields k [])
 
 -- "Then 3, a map bit that the kind lacks."
 abbrev pub noneForeign : ℕ → ℕ → Bool
@@ -136,6 +145,12 @@ headAnswer s (head.Refused r) = fault r
 abbrev pub HeadInside : List ℕ → HeadRead → Type 0
 HeadInside s (head.Found h) = (1 ≤ h .size) × (h .size ≤ length s) × (h .a .at + bytesFor (h .a .bits) ≤ length s) × (h .b .at + bytesFor (h .b .bits) ≤ length s) × (h .a .bits ≤ maxLiteral) × (h .b .bits ≤ maxLiteral)
 HeadInside s (head.Refused r) = r ≤ 5
+
+-- the head of a record that is the kind k alone, in two bytes, whatever stands behind them
+pub record BareHead (k : ℕ) (h : Head) : Type 0 where
+  pub same : (s : List ℕ) → recordOf s h ≡ plainRecord k
+  pub size : h .size ≡ 2
+  pub inside : (s : List ℕ) → 2 ≤ length s → HeadInside s (head.Found h)
 
 pub record RecordFound (s : List ℕ) (r : HeadRead) : Type 0 where
   pub answer : headAnswer s r ≡ readRecord s

@@ -1,6 +1,7 @@
 // The form of a term.
 ghost use mathlib.Core.Path.{_≡_};
-ghost use lib.ListN.{drop};
+ghost use Prim.Native.Nat.{_≤_};
+ghost use lib.ListN.{length, drop};
 ghost use Rattle.expr.specs.Results.{treeFrom, treesFrom, TreeFormed, arityOf, TreesAsked, formAnswer, shapeOf};
 ghost use Rattle.expr.specs.Form.{decode};
 use crate::records::HeadRead;
@@ -10,7 +11,7 @@ pub const MAX_RECORDS: usize = 4096;
 
 pub const MAX_DEPTH: usize = 256;
 
-// How many bytes a tree takes, and the index of the record behind it.
+// How many bytes are used up to the end of a tree, and the index of the record behind it.
 pub struct Taken {
     pub used: usize,
     pub next: usize,
@@ -34,9 +35,11 @@ pub fn arity(kind: u8) -> usize
     }
 }
 
-// The tree at the front of the bytes, of at most `left` levels, whose first record has the index `place`.
-fn tree(s: &[u8], left: usize, place: usize) -> Formed
-    ensures { λ r. ⌜ TreeFormed (treeFrom left place (now (s .entry))) (now (s .entry)) r ⌝ }
+// The tree from the byte `at` on, of at most `left` levels, whose first record has the index `place`. The bytes before `at` count as
+// used. All bytes and an index are passed, because the processor stalls where a callee copies a subslice that was just made.
+fn tree(s: &[u8], at: usize, left: usize, place: usize) -> Formed
+    requires { ⌜ at ≤ length (now s) ⌝ }
+    ensures { λ r. ⌜ TreeFormed (treeFrom left place (drop at (now (s .entry)))) (now (s .entry)) r ⌝ }
 {
     if MAX_RECORDS <= place {
         return Formed::Refused(6, place);
@@ -44,12 +47,18 @@ fn tree(s: &[u8], left: usize, place: usize) -> Formed
     if left == 0 {
         return Formed::Refused(7, place);
     }
-    let head = match crate::records::read_record(s) {
+    let head = match crate::records::read_record(&s[at..]) {
         HeadRead::Refused(number) => return Formed::Refused(number, place),
         HeadRead::Found(head) => head,
     };
+    let behind = at + head.size;
+    let next = place + 1;
     let count = arity(head.kind);
-    trees(s, head.size, count, left - 1, place + 1)
+    // trees would answer the same, at the cost of a call.
+    if count == 0 {
+        return Formed::Good(Taken { used: behind, next });
+    }
+    trees(s, behind, count, left - 1, next)
 }
 
 // As many trees as `count`, one behind the other, from the byte `at` on. The bytes before `at` count as used.
@@ -63,18 +72,18 @@ fn trees(s: &[u8], at: usize, count: usize, left: usize, place: usize) -> Formed
             next: place,
         });
     }
-    let a = match tree(&s[at..], left, place) {
+    let a = match tree(s, at, left, place) {
         Formed::Refused(number, p) => return Formed::Refused(number, p),
         Formed::Good(a) => a,
     };
-    trees(s, at + a.used, count - 1, left, a.next)
+    trees(s, a.used, count - 1, left, a.next)
 }
 
 // The form of a whole term.
 pub fn form(term: &[u8]) -> Formed
     ensures { λ r. ⌜ formAnswer r ≡ shapeOf (now (term .entry)) (decode (now (term .entry))) ⌝ }
 {
-    let t = match tree(term, MAX_DEPTH, 0) {
+    let t = match tree(term, 0, MAX_DEPTH, 0) {
         Formed::Refused(number, at) => return Formed::Refused(number, at),
         Formed::Good(t) => t,
     };

@@ -5,11 +5,11 @@ use Rattle.expr.proofs.ForeignBits.{covered-is}
 use Rattle.expr.proofs.records.none_foreign.Statement.{statement}
 use Rattle.expr.proofs.records.none_foreign.Tie as tie
 
-array-read-fields : tie.Need-array-read-fields
-array-read-fields c = search needs
+kind-fields-requires : tie.Need-kind-fields-requires
+kind-fields-requires c κs = search needs
 
 returns : tie.Need-returns
-returns c = covered-is (c .args .kind) (c .args .map) (c .pre) (omega arith)
+returns c = rw (c .kind-fields .ensures) (covered-is (c .before .args .kind) (c .before .args .map) (c .before .pre) (omega arith))
 
 pub none-foreign-spec : {M : Type 1} → statement M
-none-foreign-spec = tie.close (tie.spec array-read-fields returns)
+none-foreign-spec = tie.close (tie.spec kind-fields-requires returns)

@@ -17,11 +17,13 @@ use Rattle.expr.specs.declared.records.RangeRead.the-variants as range
 use Rattle.expr.specs.declared.records.Chosen.{Chosen}
 use Rattle.expr.specs.declared.records.PatternRead.the-variants as chosen
 use Rattle.expr.proofs.Stages.{afterKind, afterRange, afterPattern, record-stages}
+use Rattle.expr.proofs.BareRecord.{bare-found}
 use Rattle.expr.proofs.Steps.{faulted, onward}
 use Rattle.expr.proofs.records.read_record.Statement.{statement}
 use Rattle.expr.proofs.records.read_record.Tie as tie
 use Rattle.expr.proofs.records.read_record.Reads as reads
 use Rattle.expr.proofs.records.read_record.Lts as lts
+use Rattle.expr.proofs.records.bare.Reads as bare-reads
 use Rattle.expr.proofs.records.literal_field.Reads as literal-field-reads
 use Rattle.expr.proofs.records.read_kind.Reads as read-kind-reads
 use Rattle.expr.proofs.records.read_pattern.Reads as read-pattern-reads
@@ -31,6 +33,8 @@ abbrev claims : lts.Claims
 claims = (
   read-kind-reads.Asked,
   read-kind-reads.Learnt,
+  bare-reads.Asked,
+  bare-reads.Learnt,
   read-range-reads.Asked,
   read-range-reads.Learnt,
   read-pattern-reads.Asked,
@@ -62,7 +66,7 @@ abbrev Ranged : Type 0
 Ranged = lts.After-known-told4 claims reads.Pre reads.Post
 
 abbrev kindAt : Ranged → Kinded
-kindAt c = c .before .before .before .before
+kindAt c = c .before .before .before .before .before .before
 
 abbrev rangeOf : Ranged → Range
 rangeOf c = c .before .range .given .0 .0
@@ -133,16 +137,24 @@ returns c =
 enum-known-k : tie.Need-enum-known-k
 enum-known-k c = search needs
 
+bare-requires : tie.Need-bare-requires
+bare-requires c κs = search needs
+
+returns-2 : tie.Need-returns-2
+returns-2 c =
+    let place = c .before .before .before in
+    bare-found (bytes place) (kinded place) (c .before .if1 .taken) (c .bare .ensures)
+
 read-range-requires : tie.Need-read-range-requires
-read-range-requires c κs = kinded c .inside .1
+read-range-requires c κs = kinded (c .before .before) .inside .1
 
 enum-known-number-2 : tie.Need-enum-known-number-2
 enum-known-number-2 c = search needs
 
-returns-2 : tie.Need-returns-2
-returns-2 c =
+returns-3 : tie.Need-returns-3
+returns-3 c =
     let none = subst (RangeFound _ _ _) (c .before .number2 .given .1) (c .before .before .before .read-range .ensures) in
-    record { answer = at-kind (c .before .before .before .before) (faulted _ (none .answer)); inside = none .inside }
+    record { answer = at-kind (c .before .before .before .before .before .before) (faulted _ (none .answer)); inside = none .inside }
 
 enum-known-range : tie.Need-enum-known-range
 enum-known-range c = search needs
@@ -153,8 +165,8 @@ read-pattern-requires c κs = ranged c .inside .1
 enum-known-number-3 : tie.Need-enum-known-number-3
 enum-known-number-3 c = search needs
 
-returns-3 : tie.Need-returns-3
-returns-3 c =
+returns-4 : tie.Need-returns-4
+returns-4 c =
     let none = subst (PatternFound _ _ _ _) (c .before .number3 .given .1) (c .before .before .before .read-pattern .ensures) in
     record { answer = at-range (c .before .before .before .before) (faulted _ (none .answer)); inside = none .inside }
 
@@ -167,8 +179,8 @@ literal-field-requires c κs = patterned (c .before) .inside .1
 enum-known-number-4 : tie.Need-enum-known-number-4
 enum-known-number-4 c = search needs
 
-returns-4 : tie.Need-returns-4
-returns-4 c =
+returns-5 : tie.Need-returns-5
+returns-5 c =
     let none = subst (LiteralField _ _ _) (c .before .number4 .given .1) (c .before .before .before .literal-field .ensures) in
     record { answer = at-pattern (c .before .before .before .before .before) (faulted _ (none .answer)); inside = none .inside }
 
@@ -181,8 +193,8 @@ literal-field-requires-2 c κs = first (c .before) .inside .2
 enum-known-number-5 : tie.Need-enum-known-number-5
 enum-known-number-5 c = search needs
 
-returns-5 : tie.Need-returns-5
-returns-5 c =
+returns-6 : tie.Need-returns-6
+returns-6 c =
     let a = c .before .before .before .before .before in
     let none = subst (LiteralField _ _ _) (c .before .number5 .given .1) (c .before .before .before .literal-field2 .ensures) in
     record { answer = at-pattern (patternAt a) (onward _ (first a .answer) (faulted _ (none .answer))); inside = none .inside }
@@ -190,8 +202,8 @@ returns-5 c =
 enum-known-b : tie.Need-enum-known-b
 enum-known-b c = search needs
 
-returns-6 : tie.Need-returns-6
-returns-6 c =
+returns-7 : tie.Need-returns-7
+returns-7 c =
     let a = c .before .before .before .before .before in
     let p = patternAt a in
     let last = subst (LiteralField _ _ _) (c .before .b .given .1) (c .before .before .before .literal-field2 .ensures) in
@@ -213,20 +225,22 @@ read-record-spec =
     enum-known-number
     returns
     enum-known-k
+    bare-requires
+    returns-2
     read-range-requires
     enum-known-number-2
-    returns-2
+    returns-3
     enum-known-range
     read-pattern-requires
     enum-known-number-3
-    returns-3
+    returns-4
     enum-known-chosen
     literal-field-requires
     enum-known-number-4
-    returns-4
+    returns-5
     enum-known-a
     literal-field-requires-2
     enum-known-number-5
-    returns-5
+    returns-6
     enum-known-b
-    returns-6)
+    returns-7)

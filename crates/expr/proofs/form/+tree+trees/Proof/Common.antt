@@ -12,7 +12,7 @@ use Rattle.expr.proofs.form.arity.Reads as arity-reads
 use Rattle.expr.proofs.records.read_record.Reads as read-record-reads
 
 abbrev pub μ-tree : Measures 1 tree-kinds.ps ℕ
-μ-tree κs a = 4 * a .1 .0
+μ-tree κs a = 4 * a .1 .1 .0
 
 abbrev pub μ-trees : Measures 1 trees-kinds.ps ℕ
 μ-trees κs a = 4 * a .1 .1 .1 .0 + a .1 .1 .0
