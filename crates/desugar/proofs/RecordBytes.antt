@@ -16,8 +16,8 @@ use Rattle.expr.specs.Terms.{Atom, Zero, One, Top, Dup, End, Assign, Test, Core
 use Rattle.expr.specs.Records.{mapOf, stands, writeNumber, writeRecord}
 use Rattle.expr.specs.Form.{atomRecord, encodeCore}
 use Rattle.desugar.specs.Memory.{Holds, Lies, words, atomField, atomValue}
-use Rattle.desugar.specs.CoreBytes.{coreRecord, Bare, recordBytes, recordsBytes, Put}
-use Rattle.desugar.proofs.Regions.{same-at, head, tail, left, right, moved, sets-append, length-words}
+use Rattle.desugar.specs.CoreBytes.{coreRecord, CoreShape, recordBytes, recordsBytes, Put}
+use Rattle.desugar.proofs.Regions.{same-at, size-pos, head, tail, left, right, moved, sets-append, length-words}
 
 byte-length : (b : Bool) (v : ℕ) → length (cond b (bytesOf 1 v) []) ≡ bit b
 byte-length true v = refl
@@ -112,52 +112,61 @@ core-bytes (two o a b) xs at h =
 pub lies-bytes : {xs : List ℕ} {at n : ℕ} {c : Core} → Lies xs at n c → recordsBytes xs at n ≡ encodeCore c
 lies-bytes {xs} {at} {n} {c} l = ap (recordsBytes xs at) (l .count) ∙ core-bytes c xs at (l .holds)
 
--- ## A core's operators have neither field nor value
+-- ## The shape of a core's records
 
-abbrev BareAt : List ℕ → ℕ → Type 0
-BareAt xs i = Bare (getD xs i 0) (getD xs (i + 1) 0) (getD xs (i + 2) 0)
+abbrev ShapeAt : List ℕ → ℕ → Type 0
+ShapeAt xs i = CoreShape (getD xs i 0) (getD xs (i + 1) 0) (getD xs (i + 2) 0)
 
-bare-moved : (xs : List ℕ) {i j : ℕ} → i ≡ j → BareAt xs i → BareAt xs j
-bare-moved xs e h = subst (BareAt xs) e h
+shape-moved : (xs : List ℕ) {i j : ℕ} → i ≡ j → ShapeAt xs i → ShapeAt xs j
+shape-moved xs e h = subst (ShapeAt xs) e h
 
-atom-kind : (a : Atom) → atomKind a ≤ 6
-atom-kind Zero = omega arith
-atom-kind One = omega arith
-atom-kind Top = omega arith
-atom-kind Dup = omega arith
-atom-kind End = omega arith
-atom-kind (Assign f v) = omega arith
-atom-kind (Test f v) = omega arith
+-- the shape of the three numbers that stand there
+shape-held : {xs : List ℕ} {at k f v : ℕ} {ys : List ℕ} → Holds xs at (k ∷ f ∷ v ∷ ys) → CoreShape k f v → ShapeAt xs at
+shape-held {xs} {at} {k} {f} {v} h s =
+    let third : getD xs (at + 2) 0 ≡ v = same-at xs (omega arith) ∙ head (tail (tail h)) in
+    let field : getD xs (at + 1) 0 ≡ f = head (tail h) in
+    record {
+      bare = λ g. let z = s .bare (omega (arith, g, head h)) in (field ∙ z .0, third ∙ z .1);
+      named = λ g. omega (arith, s .named (omega (arith, g, field)), head h);
+    }
 
--- an operator's own record
-own-bare : {xs : List ℕ} {at k : ℕ} {ys : List ℕ} → Holds xs at (k ∷ 0 ∷ 0 ∷ ys) → BareAt xs at
-own-bare {xs} {at} h _ = (head (tail h), same-at xs (omega arith) ∙ head (tail (tail h)))
+atom-shape : (a : Atom) → CoreShape (atomKind a) (atomField a) (atomValue a)
+atom-shape Zero = record { bare = λ g. absurd (omega arith); named = λ g. absurd (omega arith) }
+atom-shape One = record { bare = λ g. absurd (omega arith); named = λ g. absurd (omega arith) }
+atom-shape Top = record { bare = λ g. absurd (omega arith); named = λ g. absurd (omega arith) }
+atom-shape Dup = record { bare = λ g. absurd (omega arith); named = λ g. absurd (omega arith) }
+atom-shape End = record { bare = λ g. absurd (omega arith); named = λ g. absurd (omega arith) }
+atom-shape (Assign f v) = record { bare = λ g. absurd (omega arith); named = λ g. omega arith }
+atom-shape (Test f v) = record { bare = λ g. absurd (omega arith); named = λ g. omega arith }
+
+operator-shape : (k : ℕ) → CoreShape k 0 0
+operator-shape k = record { bare = λ g. (refl, refl); named = λ g. absurd (omega arith) }
 
 -- the records of two cores, one behind the other
-both-bare : (xs : List ℕ) (at n m : ℕ) → ((j : ℕ) → j < n → BareAt xs (at + 3 * j)) → ((j : ℕ) → j < m → BareAt xs (at + 3 * n + 3 * j))
-    → (j : ℕ) → j < n + m → BareAt xs (at + 3 * j)
-both-bare xs at n m first second j l = pick (decLt j n)
+both-shaped : (xs : List ℕ) (at n m : ℕ) → ((j : ℕ) → j < n → ShapeAt xs (at + 3 * j)) → ((j : ℕ) → j < m → ShapeAt xs (at + 3 * n + 3 * j))
+    → (j : ℕ) → j < n + m → ShapeAt xs (at + 3 * j)
+both-shaped xs at n m first second j l = pick (decLt j n)
   where
-    pick : Dec (j < n) → BareAt xs (at + 3 * j)
+    pick : Dec (j < n) → ShapeAt xs (at + 3 * j)
     pick (yes d) = first j d
-    pick (no d) = bare-moved xs (omega (arith, d)) (second (j - n) (omega (arith, d, l)))
+    pick (no d) = shape-moved xs (omega (arith, d)) (second (j - n) (omega (arith, d, l)))
 
 -- each record of a core
-pub core-bare : (c : Core) (xs : List ℕ) (at : ℕ) → Holds xs at (words c) → (j : ℕ) → j < size c → BareAt xs (at + 3 * j)
-core-bare (leaf a) xs at h zero l = bare-moved xs {i = at} (omega arith) (λ g. absurd (omega (arith, g, head h, atom-kind a)))
-core-bare (leaf a) xs at h (suc j) l = absurd (omega arith)
-core-bare (one o c) xs at h zero l = bare-moved xs (omega arith) (own-bare h)
-core-bare (one o c) xs at h (suc j) l =
-    bare-moved xs (omega arith) (core-bare c xs (at + 3) (right (op1Kind o ∷ 0 ∷ 0 ∷ []) (words c) h) j (omega arith))
-core-bare (two o a b) xs at h zero l = bare-moved xs (omega arith) (own-bare h)
-core-bare (two o a b) xs at h (suc j) l =
+core-shape : (c : Core) (xs : List ℕ) (at : ℕ) → Holds xs at (words c) → (j : ℕ) → j < size c → ShapeAt xs (at + 3 * j)
+core-shape (leaf a) xs at h zero l = shape-moved xs (omega arith) (shape-held h (atom-shape a))
+core-shape (leaf a) xs at h (suc j) l = absurd (omega arith)
+core-shape (one o c) xs at h zero l = shape-moved xs (omega arith) (shape-held h (operator-shape (op1Kind o)))
+core-shape (one o c) xs at h (suc j) l =
+    shape-moved xs (omega arith) (core-shape c xs (at + 3) (right (op1Kind o ∷ 0 ∷ 0 ∷ []) (words c) h) j (omega arith))
+core-shape (two o a b) xs at h zero l = shape-moved xs (omega arith) (shape-held h (operator-shape (op2Kind o)))
+core-shape (two o a b) xs at h (suc j) l =
     let behind = right (op2Kind o ∷ 0 ∷ 0 ∷ []) (words a ++ words b) h in
     let second = moved (right (words a) (words b) behind) (ap (λ n. at + 3 + n) (length-words a)) refl in
-    bare-moved xs {i = at + 3 + 3 * j} (omega arith)
-    (both-bare xs (at + 3) (size a) (size b) (core-bare a xs (at + 3) (left (words a) (words b) behind)) (core-bare b xs (at + 3 + 3 * size a) second) j (omega arith))
+    shape-moved xs {i = at + 3 + 3 * j} (omega arith)
+    (both-shaped xs (at + 3) (size a) (size b) (core-shape a xs (at + 3) (left (words a) (words b) behind)) (core-shape b xs (at + 3 + 3 * size a) second) j (omega arith))
 
-pub lies-bare : {xs : List ℕ} {at n : ℕ} {c : Core} → Lies xs at n c → (j : ℕ) → j < n → BareAt xs (at + 3 * j)
-lies-bare {xs} {at} {n} {c} l j h = core-bare c xs at (l .holds) j (omega (arith, l .count))
+pub lies-shape : {xs : List ℕ} {at n : ℕ} {c : Core} → Lies xs at n c → (j : ℕ) → j < n → ShapeAt xs (at + 3 * j)
+lies-shape {xs} {at} {n} {c} l j h = core-shape c xs at (l .holds) j (omega (arith, l .count))
 
 -- a run of stores at the front
 pub sets-front : (vs l : List ℕ) → length vs ≤ length l → sets l 0 vs ≡ vs ++ drop (length vs) l
@@ -170,14 +179,6 @@ number-none n v e = ap (λ b. cond (not b) (bytesOf n v) []) (eq-eqb v 0 e)
 
 pub number-some : (n v : ℕ) → (v ≡ 0 → ⊥) → writeNumber n v ≡ bytesOf n v
 number-some n v e = ap (λ b. cond (not b) (bytesOf n v) []) (ne-eqb v 0 e)
-
--- a number without a byte
-pub number-empty : (v : ℕ) → length (writeNumber 1 v) ≡ 0 → writeNumber 1 v ≡ []
-number-empty v e = pick (ℕ-discrete v 0)
-  where
-    pick : Dec (v ≡ 0) → writeNumber 1 v ≡ []
-    pick (yes d) = number-none 1 v d
-    pick (no d) = absurd (omega (arith, e, ap length (number-some 1 v d)))
 
 -- a byte that is written where its number stands, and else written back
 pub value-put : (l : List ℕ) (to v : ℕ) {b : ℕ} → b ≡ cond (stands v) (v % 256) (getD l to 0) → Put (writeNumber 1 v) l to (set l to b) (to + bit (stands v))
@@ -263,6 +264,16 @@ pub records-within : (xs : List ℕ) (at j n : ℕ) → j < n → length (record
 records-within xs at j n l =
     let all : j + 1 + (n - (j + 1)) ≡ n = omega arith in
     omega (arith, length-next xs at j, records-below xs at (j + 1) (n - (j + 1)), ap (λ m. length (recordsBytes xs at m)) all)
+
+-- a byte follows on a record that is not the last
+pub records-before : (xs : List ℕ) (at j n : ℕ) → j + 1 < n → length (recordsBytes xs at j) + length (recordBytes xs (at + 3 * j)) < length (recordsBytes xs at n)
+records-before xs at j n l =
+    let next = at + 3 * (j + 1) in
+    omega (arith, length-next xs at j, records-within xs at (j + 1) n l, record-length (getD xs next 0) (getD xs (next + 1) 0) (getD xs (next + 2) 0))
+
+-- a core has a record
+pub lies-some : {xs : List ℕ} {at n : ℕ} {c : Core} → Lies xs at n c → 1 ≤ n
+lies-some {c = c} l = omega (arith, l .count, size-pos c)
 
 pub lies-inside : {xs : List ℕ} {at n : ℕ} {c : Core} → Lies xs at n c → at + 3 * n ≤ length xs
 lies-inside {xs} {at} {n} {c} l = omega (arith, l .holds .fits, length-words c, l .count)

@@ -1,17 +1,18 @@
 -- The bytes of a core that lies in work memory: the words of the contracts of src/core_bytes.rt.
 use mathlib.Core.{Path._≡_, List.List, List.[], List._++_}
-use Prim.Native.Nat.{ℕ, zero, suc, _+_, _*_, _≤_}
+use Prim.Native.Nat.{ℕ, zero, suc, _+_, _*_, _≤_, _<_}
 use lib.{ListN.length, ListN.getD, ListN.drop, Seq.sets}
 use Rattle.expr.specs.{Terms.Core, Records.Record, Records.writeRecord, Form.encodeCore}
 use Rattle.desugar.specs.{Memory.Lies}
 
--- a core's record: its kind, field and value
+-- a record of a kind, a field and a value
 abbrev pub coreRecord : ℕ → ℕ → ℕ → Record
 coreRecord k f v = record { kind = k; name = 0; start = f; end = 0; pattern = 0; number = v; litA = []; litB = [] }
 
--- a record with an operator's kind has neither field nor value
-abbrev pub Bare : ℕ → ℕ → ℕ → Type 0
-Bare k f v = 7 ≤ k → (f ≡ 0) × (v ≡ 0)
+-- a core's record: an operator has neither field nor value, and what has a field has a kind
+pub record CoreShape (k f v : ℕ) : Type 0 where
+  pub bare : 7 ≤ k → (f ≡ 0) × (v ≡ 0)
+  pub named : 0 < f → 0 < k
 
 -- the bytes of the record at index i
 abbrev pub recordBytes : List ℕ → ℕ → List ℕ

@@ -9,7 +9,7 @@ ghost use Rattle.expr.specs.Terms.{Core};
 ghost use Rattle.expr.specs.Records.{mapOf, stands, writeNumber, writeRecord};
 ghost use Rattle.expr.specs.Form.{encodeCore};
 ghost use Rattle.desugar.specs.Memory.{Lies};
-ghost use Rattle.desugar.specs.CoreBytes.{coreRecord, Bare, Put, Writable, CoreWritten};
+ghost use Rattle.desugar.specs.CoreBytes.{coreRecord, CoreShape, Put, Writable, CoreWritten};
 
 // The most bytes of a record.
 const MAX_RECORD: usize = 7;
@@ -92,22 +92,20 @@ fn chosen(held: u8, v: u32) -> u8
     (v % 256) as u8
 }
 
-// The same as write_byte, without a branch on the number: a test's value is 0 as often as not, and no processor foresees which.
+// The same as write_byte where a byte follows, without a branch on the number: a test's value is 0 as often as not, and no processor
+// foresees which.
 fn write_value(out: &mut [u8], to: usize, v: u32) -> usize
-    requires { ⌜ to + length (writeNumber 1 v) ≤ length (now out) ⌝ }
+    requires { ⌜ to < length (now out) ⌝ }
     ensures { λ r. ⌜ Put (writeNumber 1 v) (now (out .entry)) to (now (out .exit)) r ⌝ }
 {
-    if out.len() <= to {
-        return to;
-    }
     let held = out[to];
     out[to] = chosen(held, v);
     to + standing(v) as usize
 }
 
-// The bytes of a record that has a kind and a field; the index behind them.
+// The bytes of a record that has a kind and a field, where a byte follows; the index behind them.
 fn write_atom(out: &mut [u8], to: usize, kind: u32, field: u32, value: u32) -> usize
-    requires { ⌜ to + length (writeRecord (coreRecord kind field value)) ≤ length (now out) ⌝ }
+    requires { ⌜ to + length (writeRecord (coreRecord kind field value)) < length (now out) ⌝ }
     requires { ⌜ (0 < kind) × (0 < field) ⌝ }
     ensures { λ r. ⌜ Put (writeRecord (coreRecord kind field value)) (now (out .entry)) to (now (out .exit)) r ⌝ }
 {
@@ -117,10 +115,21 @@ fn write_atom(out: &mut [u8], to: usize, kind: u32, field: u32, value: u32) -> u
     write_value(out, end, value)
 }
 
-// A record's bytes; the index behind them. Operators and atoms on a field, which are nearly all, go their own ways.
-fn write_record(out: &mut [u8], to: usize, kind: u32, field: u32, value: u32) -> usize
+// A record's bytes; the index behind them.
+fn write_any(out: &mut [u8], to: usize, kind: u32, field: u32, value: u32) -> usize
     requires { ⌜ to + length (writeRecord (coreRecord kind field value)) ≤ length (now out) ⌝ }
-    requires { ⌜ Bare kind field value ⌝ }
+    ensures { λ r. ⌜ Put (writeRecord (coreRecord kind field value)) (now (out .entry)) to (now (out .exit)) r ⌝ }
+{
+    out[to] = map(kind, field, value);
+    let a = write_byte(&mut *out, to + 1, kind);
+    let b = write_field(&mut *out, a, field);
+    write_byte(out, b, value)
+}
+
+// The same where a byte follows: operators and atoms on a field, which are nearly all, go their own ways.
+fn write_record(out: &mut [u8], to: usize, kind: u32, field: u32, value: u32) -> usize
+    requires { ⌜ to + length (writeRecord (coreRecord kind field value)) < length (now out) ⌝ }
+    requires { ⌜ CoreShape kind field value ⌝ }
     ensures { λ r. ⌜ Put (writeRecord (coreRecord kind field value)) (now (out .entry)) to (now (out .exit)) r ⌝ }
 {
     if 7 <= kind {
@@ -128,15 +137,10 @@ fn write_record(out: &mut [u8], to: usize, kind: u32, field: u32, value: u32) ->
         out[to + 1] = (kind % 256) as u8;
         return to + 2;
     }
-    if 0 < kind {
-        if 0 < field {
-            return write_atom(out, to, kind, field, value);
-        }
+    if 0 < field {
+        return write_atom(out, to, kind, field, value);
     }
-    out[to] = map(kind, field, value);
-    let a = write_byte(&mut *out, to + 1, kind);
-    let b = write_field(&mut *out, a, field);
-    write_byte(out, b, value)
+    write_any(out, to, kind, field, value)
 }
 
 // Whether the bytes of the core of n records at `at` fit a room. They need not be counted where there is room for the longest records.
@@ -155,12 +159,14 @@ pub(crate) fn write_core(work: &[u32], at: usize, n: usize, out: &mut [u8]) -> u
     requires { ⌜ Writable (now work) at n (now out) ⌝ }
     ensures { λ r. ⌜ ((c : Core) → Lies (now (work .entry)) at n c → CoreWritten c (now (out .entry)) (now (out .exit)) r) ⌝ }
 {
+    let last = n - 1;
     let mut to = 0;
     let mut j = 0;
-    while j < n {
+    while j < last {
         let here = at + 3 * j;
         to = write_record(&mut *out, to, work[here], work[here + 1], work[here + 2]);
         j += 1;
     }
-    to
+    let end = at + 3 * last;
+    write_any(out, to, work[end], work[end + 1], work[end + 2])
 }

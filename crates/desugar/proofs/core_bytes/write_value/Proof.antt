@@ -1,19 +1,10 @@
 -- `core_bytes::write_value` meets its contract.
 use mathlib.Core.Path.{sym, ap}
 use Prim.Native.Nat.{_+_}
-use native.Mathlib.Omega.{arith}
-use lib.ListN.{length}
-use lib.Seq.{sets}
 use borrow.Author.Needs.{needs}
-use Rattle.desugar.proofs.RecordBytes.{number-empty, put-next, value-put}
+use Rattle.desugar.proofs.RecordBytes.{put-next, value-put}
 use Rattle.desugar.proofs.core_bytes.write_value.Statement.{statement}
 use Rattle.desugar.proofs.core_bytes.write_value.Tie as tie
-
-returns : tie.Need-returns
-returns c =
-    let a = c .before .before .args in
-    let empty = number-empty (a .v) (omega (arith, c .if1 .taken, c .before .before .pre)) in
-    record { written = ap (sets (a .out .now) (a .to)) (sym empty); next = omega (arith, ap length empty) }
 
 slice-read-held : tie.Need-slice-read-held
 slice-read-held c = search needs
@@ -36,16 +27,15 @@ add-result c = search needs
 same-length : tie.Need-same-length
 same-length c = search needs
 
-returns-2 : tie.Need-returns-2
-returns-2 c =
-    let a = c .before .before .before .before .before .args in
+returns : tie.Need-returns
+returns c =
+    let a = c .before .before .before .before .args in
     put-next (ap (λ n. a .to + n) (sym (c .standing .ensures))) (value-put (a .out .now) (a .to) (a .v) (c .before .chosen .ensures))
 
 pub write-value-spec : {M : Type 1} → statement M
 write-value-spec =
     tie.close
     (tie.spec
-    returns
     slice-read-held
     chosen-requires
     slice-write-out
@@ -53,4 +43,4 @@ write-value-spec =
     cast-result
     add-result
     same-length
-    returns-2)
+    returns)
