@@ -1,9 +1,8 @@
 #!/bin/sh
 # Instructions of one netkat_desugar and one netkat_check on terms of growing size, counted by valgrind's callgrind: they repeat.
-# Needs ORACLE_SEEDS (see oracle/run.sh), cargo, valgrind and target/staticlib/libnetkat.a.
-. "$(dirname "$0")/../oracle/seeds.sh"
-cd "$(dirname "$0")/../oracle" || exit 2
-target=../target/oracle
+# Needs what bench/run.sh needs, and valgrind.
+here=$(dirname "$0")/../oracle
+. "$here/prepare.sh"
 cargo build --profile timing --offline --quiet --target-dir "$target" || exit 2
 oracle=$target/timing/oracle
 terms=$target/terms

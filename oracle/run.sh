@@ -3,15 +3,10 @@
 #   ORACLE_SEEDS   folder with the original's expr.rs and desugar.rs (or src--src--expr.rs.txt and src--src--desugar.rs.txt)
 #   SEED (1), COUNT (300000) random inputs, THREADS (1)
 # Needs cargo and python3; also the Rattle kit (rt), unless target/staticlib/libnetkat.a is there.
-. "$(dirname "$0")/seeds.sh"
-cd "$(dirname "$0")" || exit 2
+here=$(dirname "$0")
+. "$here/prepare.sh"
 SEED=${SEED:-1} COUNT=${COUNT:-300000} THREADS=${THREADS:-1}
 
-if [ ! -f ../target/staticlib/libnetkat.a ]; then
-    command -v rt > /dev/null || { echo "run.sh: no target/staticlib/libnetkat.a, and no rt to build it" >&2; exit 2; }
-    (cd .. && rt staticlib netkat) || exit 2
-fi
-target=../target/oracle
 cargo build --release --offline --quiet --target-dir "$target" || exit 2
 oracle=$target/release/oracle
 sample=$target/sample.txt
