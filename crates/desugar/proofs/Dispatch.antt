@@ -159,7 +159,7 @@ module _ {s : List ℕ} {levels place : ℕ} (e : Expr) (t : TermAt s levels pla
 -- ## The walk over it
 
 -- the terms behind a record of what `&s[at..]` holds are behind it in the whole
-from-part : {s : List ℕ} {at n l place : ℕ} {es : List Expr} → at ≤ length s → TermsAt (part at s) n l place es → TermsAt s (at + n) l place es
+pub from-part : {s : List ℕ} {at n l place : ℕ} {es : List Expr} → at ≤ length s → TermsAt (part at s) n l place es → TermsAt s (at + n) l place es
 from-part {s} {at} {n} h t =
     record {
       more = t .more;
@@ -169,6 +169,10 @@ from-part {s} {at} {n} h t =
       deep = t .deep;
       low = t .low;
     }
+
+-- such a record is inside the whole
+pub record-inside : (s : List ℕ) (at : ℕ) {e : Expr} {more : List ℕ} {h : Head} → at ≤ length s → Headed (part at s) e more h → at + h .size ≤ length s
+record-inside s at low k = omega (arith, low, k .inside, ap length (part-is at s), length-drop at s)
 
 module _ {s xs : List ℕ} {at levels last top a : ℕ} (place : ℕ) (q : Ready s at levels place last top a xs) {h : Head}
     (k : Headed (part at s) (q .term) (q .text .more) h) where
@@ -183,9 +187,6 @@ module _ {s xs : List ℕ} {at levels last top a : ℕ} (place : ℕ) (q : Ready
 
   pub some-left : 1 ≤ levels
   some-left = levels-left e text k
-
-  pub record-inside : at + h .size ≤ length s
-  record-inside = omega (arith, q .start, k .inside, ap length (part-is at s), length-drop at s)
 
   pub kids-stack : Stack xs last top a (levels - 1 + 1) (q .env)
   kids-stack = stack-moved (q .stack) (kept-all last xs) (omega arith) (q .stack .below) (omega (arith, some-left))

@@ -42,10 +42,7 @@ module _ {s : List ℕ} {from levels place : ℕ} (e : Expr) (es : List Expr) (t
         low = omega (arith, t .low);
       }
 
-  pub first-at : TermAt (part from s) levels place e
-  first-at = in-part s from first-behind
-
-  pub used-inside : from + length (encode e) ≤ length s
+  used-inside : from + length (encode e) ≤ length s
   used-inside = omega (arith, t .start, length-drop from s, ap length behind, length-append (encode e) (encodeAll es ++ t .more))
 
   pub rest-at : {next place′ : ℕ} → next ≡ from + length (encode e) → place′ ≡ place + records e → TermsAt s next levels place′ es

@@ -14,11 +14,13 @@ use Rattle.expr.specs.declared.records.Head.{Head}
 use Rattle.expr.proofs.FormTheorem.{decode-only}
 use Rattle.expr.proofs.HeadOf.{Headed}
 use Rattle.expr.proofs.Replacing.{short}
-use Rattle.expr.proofs.Slices.{Sliced, bytes-each}
+use Rattle.expr.proofs.Slices.{Sliced, bytes-each, part}
 use Rattle.desugar.specs.Bindings.{Env}
 use Rattle.desugar.specs.BindingWords.{Bound}
+use Rattle.desugar.specs.WalkWords.{TermAt, TermsAt}
 use Rattle.desugar.proofs.Regions.{kept-all}
-use Rattle.desugar.proofs.Dispatch.{alone, kind-low, levels-left, one-kid, two-kids, three-kids}
+use Rattle.desugar.proofs.WalkLaws.{in-part}
+use Rattle.desugar.proofs.Dispatch.{alone, from-part, kind-low, levels-left, one-kid, two-kids, three-kids}
 use Rattle.netkat.specs.Check.{check, checkBytes}
 use Rattle.netkat.specs.CheckWords.{checkWalk, flags, Frames, CheckReady, CheckRoom, CheckOne, CheckTwo, CheckThree, SortReady, CheckedAs}
 use Rattle.netkat.specs.declared.check.Walked.{Walked}
@@ -27,85 +29,100 @@ use Rattle.netkat.proofs.CheckLaws.{frames-moved}
 
 -- ## A term whose record was read
 
-module _ {s xs : List ℕ} {levels last top : ℕ} (place : ℕ) (q : CheckReady s levels place last top xs) {h : Head} (k : Headed s (q .term) (q .text .more) h) where
+module _ {s xs : List ℕ} {at levels last top : ℕ} (place : ℕ) (q : CheckReady s at levels place last top xs) {h : Head}
+    (k : Headed (part at s) (q .term) (q .text .more) h) where
   abbrev node : Node
-  node = nodeOf (recordOf s h)
+  node = nodeOf (recordOf (part at s) h)
 
   abbrev e : Expr
   e = q .term
 
+  abbrev text : TermAt (part at s) levels place e
+  text = in-part s at (q .text)
+
   pub some-left : 1 ≤ levels
-  some-left = levels-left e (q .text) k
+  some-left = levels-left e text k
 
   kids-frames : Frames xs last top (levels - 1 + 1) (q .env)
   kids-frames = frames-moved (q .frames) (kept-all last xs) (omega arith) (q .frames .below) (omega (arith, some-left))
 
+  -- what is told, with bytes counted from the term's first
   abbrev Told : List ℕ → Walked → Expr → ℕ → ℕ → Type 0
-  Told ys r e used next = CheckedAs (checkWalk (q .env) e place) used next top xs ys r
+  Told ys r e used next = CheckedAs (checkWalk (q .env) e place) (at + used) next top xs ys r
 
   abbrev Term : List ℕ → Walked → Type 0
   Term ys r = Told ys r e (length (encode e)) (place + records e)
 
-  pub one-asked : {f : Expr → Expr} → node ≡ node1 f → CheckOne s (h .size) (levels - 1) place last top xs
-  one-asked n =
-      one-kid e (q .text) k (λ _ _ _. CheckOne s (h .size) (levels - 1) place last top xs) n
-      (λ b t. record { first = b; env = q .env; text = t; frames = kids-frames })
+  -- bytes that are counted from the front, counted from the term's first
+  counted : (f : Expr) (ys : List ℕ) (r : Walked) (u next : ℕ) → CheckedAs (checkWalk (q .env) f place) (at + h .size + u) next top xs ys r → Told ys r f (h .size + u) next
+  counted f ys r u next = subst (λ n. CheckedAs (checkWalk (q .env) f place) n next top xs ys r) (omega arith)
 
-  pub two-asked : {f : Expr → Expr → Expr} → node ≡ node2 f → CheckTwo s (h .size) (levels - 1) place last top xs
-  two-asked n =
-      two-kids e (q .text) k (λ _ _ _. CheckTwo s (h .size) (levels - 1) place last top xs) n
-      (λ b c t. record { first = b; second = c; env = q .env; text = t; frames = kids-frames })
+  abbrev one-ready : (b : Expr) → TermsAt (part at s) (h .size) (levels - 1) (place + 1) (b ∷ []) → CheckOne s (at + h .size) (levels - 1) place last top xs
+  one-ready b t = record { first = b; env = q .env; text = from-part (q .start) t; frames = kids-frames }
 
-  pub three-asked : {f : Expr → Expr → Expr → Expr} → node ≡ node3 f → CheckThree s (h .size) (levels - 1) place last top xs
-  three-asked n =
-      three-kids e (q .text) k (λ _ _ _. CheckThree s (h .size) (levels - 1) place last top xs) n
-      (λ b c d t. record { first = b; second = c; third = d; env = q .env; text = t; frames = kids-frames })
+  abbrev two-ready : (b c : Expr) → TermsAt (part at s) (h .size) (levels - 1) (place + 1) (b ∷ c ∷ []) → CheckTwo s (at + h .size) (levels - 1) place last top xs
+  two-ready b c t = record { first = b; second = c; env = q .env; text = from-part (q .start) t; frames = kids-frames }
+
+  abbrev three-ready : (b c d : Expr) → TermsAt (part at s) (h .size) (levels - 1) (place + 1) (b ∷ c ∷ d ∷ [])
+      → CheckThree s (at + h .size) (levels - 1) place last top xs
+  three-ready b c d t = record { first = b; second = c; third = d; env = q .env; text = from-part (q .start) t; frames = kids-frames }
+
+  pub one-asked : {f : Expr → Expr} → node ≡ node1 f → CheckOne s (at + h .size) (levels - 1) place last top xs
+  one-asked n = one-kid e text k (λ _ _ _. CheckOne s (at + h .size) (levels - 1) place last top xs) n one-ready
+
+  pub two-asked : {f : Expr → Expr → Expr} → node ≡ node2 f → CheckTwo s (at + h .size) (levels - 1) place last top xs
+  two-asked n = two-kids e text k (λ _ _ _. CheckTwo s (at + h .size) (levels - 1) place last top xs) n two-ready
+
+  pub three-asked : {f : Expr → Expr → Expr → Expr} → node ≡ node3 f → CheckThree s (at + h .size) (levels - 1) place last top xs
+  three-asked n = three-kids e text k (λ _ _ _. CheckThree s (at + h .size) (levels - 1) place last top xs) n three-ready
 
   pub one-done : {f : Expr → Expr} (ys : List ℕ) (r : Walked) → node ≡ node1 f
-      → ((p : CheckOne s (h .size) (levels - 1) place last top xs)
-      → CheckedAs (checkWalk (p .env) (f (p .first)) place) (h .size + length (encode (p .first))) (place + 1 + records (p .first)) top xs ys r)
+      → ((p : CheckOne s (at + h .size) (levels - 1) place last top xs)
+      → CheckedAs (checkWalk (p .env) (f (p .first)) place) (at + h .size + length (encode (p .first))) (place + 1 + records (p .first)) top xs ys r)
       → Term ys r
-  one-done ys r n v = one-kid e (q .text) k (Told ys r) n (λ b t. v (record { first = b; env = q .env; text = t; frames = kids-frames }))
+  one-done {f} ys r n v = one-kid e text k (Told ys r) n (λ b t. counted (f b) ys r (length (encode b)) (place + 1 + records b) (v (one-ready b t)))
 
   pub two-done : {f : Expr → Expr → Expr} (ys : List ℕ) (r : Walked) → node ≡ node2 f
-      → ((p : CheckTwo s (h .size) (levels - 1) place last top xs)
-      → CheckedAs (checkWalk (p .env) (f (p .first) (p .second)) place) (h .size + length (encodeAll (p .first ∷ p .second ∷ [])))
+      → ((p : CheckTwo s (at + h .size) (levels - 1) place last top xs)
+      → CheckedAs (checkWalk (p .env) (f (p .first) (p .second)) place) (at + h .size + length (encodeAll (p .first ∷ p .second ∷ [])))
       (place + 1 + records (p .first) + records (p .second)) top xs ys r)
       → Term ys r
-  two-done ys r n v =
-      two-kids e (q .text) k (Told ys r) n (λ b c t. v (record { first = b; second = c; env = q .env; text = t; frames = kids-frames }))
+  two-done {f} ys r n v =
+      two-kids e text k (Told ys r) n (λ b c t.
+      counted (f b c) ys r (length (encodeAll (b ∷ c ∷ []))) (place + 1 + records b + records c) (v (two-ready b c t)))
 
   pub three-done : {f : Expr → Expr → Expr → Expr} (ys : List ℕ) (r : Walked) → node ≡ node3 f
-      → ((p : CheckThree s (h .size) (levels - 1) place last top xs)
-      → CheckedAs (checkWalk (p .env) (f (p .first) (p .second) (p .third)) place) (h .size + length (encodeAll (p .first ∷ p .second ∷ p .third ∷ [])))
+      → ((p : CheckThree s (at + h .size) (levels - 1) place last top xs)
+      → CheckedAs (checkWalk (p .env) (f (p .first) (p .second) (p .third)) place) (at + h .size + length (encodeAll (p .first ∷ p .second ∷ p .third ∷ [])))
       (place + 1 + records (p .first) + records (p .second) + records (p .third)) top xs ys r)
       → Term ys r
-  three-done ys r n v =
-      three-kids e (q .text) k (Told ys r) n
-      (λ b c d t. v (record { first = b; second = c; third = d; env = q .env; text = t; frames = kids-frames }))
+  three-done {f} ys r n v =
+      three-kids e text k (Told ys r) n (λ b c d t.
+      counted (f b c d) ys r (length (encodeAll (b ∷ c ∷ d ∷ []))) (place + 1 + records b + records c + records d) (v (three-ready b c d t)))
 
   -- a record without children
-  pub leaf-ready : SortReady s h last xs
-  leaf-ready = record { inside = k .found; kind = kind-low e (q .text) k; env = q .env; bound = q .frames .bound }
+  pub leaf-ready : SortReady (part at s) h last xs
+  leaf-ready = record { inside = k .found; kind = kind-low e text k; env = q .env; bound = q .frames .bound }
 
   pub leaf-done : (r : Walked) → 0 ≡ arityOf (h .kind) → (answer : Answer Bool)
       → ((e : Expr) (env : Env Bool) → node ≡ node0 e → Bound xs last (flags env) → answer ≡ checkWalk env e place)
-      → ((x : Answer Bool) (top : ℕ) (xs : List ℕ) → answer ≡ x → CheckedAs x (h .size) (place + 1) top xs xs r)
+      → ((x : Answer Bool) (top : ℕ) (xs : List ℕ) → answer ≡ x → CheckedAs x (at + h .size) (place + 1) top xs xs r)
       → Term xs r
   leaf-done r none answer v told =
-      let f = alone e (q .text) k none in
+      let f = alone e text k none in
       subst (λ u. Told xs r e u (place + records e)) (f .1)
       (subst (λ (n : ℕ). Told xs r e (h .size) n) (ap (λ (n : ℕ). place + n) (f .2)) (told (checkWalk (q .env) e place) top xs (v e (q .env) (f .0) (q .frames .bound))))
 
 -- ## A whole term
 
 module _ {s : List ℕ} {levels : ℕ} {xs : List ℕ} (q : CheckRoom s levels xs) where
-  abbrev pub whole-ready : {last : ℕ} → Sliced s → last ≡ 0 → CheckReady s levels 0 last 0 xs
+  abbrev pub whole-ready : {last : ℕ} → Sliced s → last ≡ 0 → CheckReady s 0 levels 0 last 0 xs
   whole-ready b none =
       let d = decode-only s (q .term) (bytes-each s b) (q .reads) in
       record {
         term = q .term;
         env = [];
+        start = omega arith;
         text =
             record {
               more = [];

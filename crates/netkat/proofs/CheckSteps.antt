@@ -10,7 +10,6 @@ use Rattle.expr.specs.Answers.{Answer, andThen, need, ok, refuse}
 use Rattle.expr.specs.Form.{encode}
 use Rattle.expr.specs.Replaced.{encodeAll}
 use Rattle.expr.specs.Terms.{Core, Expr, Name, Op2, Unary, Binary, TestNegation, IfThenElse, Let, LetBitRange, op2Kind, records, size, testKind}
-use Rattle.expr.proofs.Slices.{part}
 use Rattle.desugar.specs.Bindings.{Env, range, variable}
 use Rattle.desugar.specs.BindingWords.{Bound, FrameRoom}
 use Rattle.desugar.specs.Memory.{Holds, Kept, Lies, words}
@@ -20,9 +19,11 @@ use Rattle.desugar.proofs.Frames.{bound-kept}
 use Rattle.desugar.proofs.WalkLaws.{rest-at, then-ok, then-refused}
 use Rattle.desugar.proofs.PairSteps.{pair-long}
 use Rattle.desugar.proofs.IfSteps.{triple-long}
-use Rattle.netkat.specs.CheckWords.{checkWalk, flags, sortCore, sortKind, CheckReady, CheckOne, CheckTwo, CheckThree, SortedAs}
+use Rattle.netkat.specs.CheckWords.{checkWalk, flags, sortCore, sortKind, CheckReady, CheckOne, CheckTwo, CheckThree, SortedAs, CheckedAs}
 use Rattle.netkat.specs.declared.check.Sorted.{Sorted}
-use Rattle.netkat.proofs.CheckLaws.{frames-moved, go-on, last-found, ready-first}
+use Rattle.netkat.specs.declared.check.Walked.{Walked}
+use Rattle.netkat.specs.declared.check.Walked.the-variants.{Done}
+use Rattle.netkat.proofs.CheckLaws.{Visited, frames-moved, go-on, last-found, ready-first, wider}
 
 -- ## One operand
 
@@ -31,26 +32,23 @@ module _ {s xs : List ℕ} {from l last top : ℕ} (place : ℕ) (q : CheckOne s
   x₁ = checkWalk (q .env) (q .first) (place + 1)
 
   abbrev pub OneFound : List ℕ → Sorted → Type 0
-  OneFound ys w = SortedAs x₁ (length (encode (q .first))) (place + 1 + records (q .first)) top xs ys w
+  OneFound ys w = SortedAs x₁ (from + length (encode (q .first))) (place + 1 + records (q .first)) top xs ys w
 
-  abbrev pub one-first : CheckReady (part from s) l (place + 1) last top xs
+  abbrev pub one-first : CheckReady s from l (place + 1) last top xs
   one-first =
       ready-first (place + 1) (q .first) [] (q .text) (frames-moved (q .frames) (kept-all last xs) (omega arith) (q .frames .below) (omega arith))
 
   -- what is told of the whole
-  abbrev OneTold : Expr → List ℕ → Sorted → Type 0
-  OneTold e ys w = SortedAs (checkWalk (q .env) e place) (from + length (encode (q .first))) (place + 1 + records (q .first)) top xs ys w
+  abbrev OneTold : Expr → List ℕ → Walked → Type 0
+  OneTold e ys r = CheckedAs (checkWalk (q .env) e place) (from + length (encode (q .first))) (place + 1 + records (q .first)) top xs ys r
 
   module _ {ys : List ℕ} {w : Sorted} (c : OneFound ys w) where
-    abbrev behind : Bool → Sorted
-    behind b = record { used = from + w .used; next = w .next; test = b }
+    pub unary-done : {kind : ℕ} (k : Operator1 kind) → OneTold (Unary (k .o) (q .first)) ys (Done (record { used = w .used; next = w .next; test = false }))
+    unary-done k = last-found (then-ok _ (c .is)) refl refl (omega arith) (kept-all top xs) c
 
-    pub unary-done : {kind : ℕ} (k : Operator1 kind) → OneTold (Unary (k .o) (q .first)) ys (behind false)
-    unary-done k = last-found from (then-ok _ (c .is)) refl refl (omega arith) (kept-all top xs) c
-
-    pub negation-done : w .test ≡ true → OneTold (TestNegation (q .first)) ys (behind true)
+    pub negation-done : w .test ≡ true → OneTold (TestNegation (q .first)) ys (Done w)
     negation-done h =
-        last-found from (then-ok _ (c .is) ∙ ap (λ b. andThen (need b 22 place) (λ _. ok true)) h) refl refl (omega arith) (kept-all top xs) c
+        last-found (then-ok _ (c .is) ∙ ap (λ b. andThen (need b 22 place) (λ _. ok true)) h ∙ ap ok (sym h)) refl refl (omega arith) (kept-all top xs) c
 
     pub negation-refused : w .test ≡ false → checkWalk (q .env) (TestNegation (q .first)) place ≡ refuse 22 place
     negation-refused h = then-ok _ (c .is) ∙ ap (λ b. andThen (need b 22 place) (λ _. ok true)) h
@@ -58,7 +56,7 @@ module _ {s xs : List ℕ} {from l last top : ℕ} (place : ℕ) (q : CheckOne s
   -- LetBitRange: the body under one binding more
   module _ (x b e : ℕ) {inner : ℕ} {xs₁ : List ℕ} (top-is : inner ≡ top + 5) (kept : Kept top xs xs₁)
       (binds : (env : Env Core) → Bound xs last env → Bound xs₁ inner (range x b e ∷ env)) where
-    abbrev pub alias-ready : CheckReady (part from s) l (place + 1) inner (top + 5) xs₁
+    abbrev pub alias-ready : CheckReady s from l (place + 1) inner (top + 5) xs₁
     alias-ready =
         ready-first {env = range x b e ∷ q .env} (place + 1) (q .first) [] (q .text)
         (record {
@@ -68,10 +66,12 @@ module _ {s xs : List ℕ} {from l last top : ℕ} (place : ℕ) (q : CheckOne s
           small = omega (arith, q .frames .small);
         })
 
-    pub alias-done : {w : Sorted} {ys : List ℕ}
-        → SortedAs (checkWalk (range x b e ∷ q .env) (q .first) (place + 1)) (length (encode (q .first))) (place + 1 + records (q .first)) (top + 5) xs₁ ys w
-        → OneTold (LetBitRange x b e (q .first)) ys (record { used = from + w .used; next = w .next; test = w .test })
-    alias-done c = last-found from (c .is) refl refl (omega arith) kept c
+    pub alias-done : (ys : List ℕ) (r : Walked) → Visited s from l (place + 1) inner (top + 5) xs₁ ys r
+        → OneTold (LetBitRange x b e (q .first)) ys r
+    alias-done ys r v =
+        wider (checkWalk (q .env) (LetBitRange x b e (q .first)) place) (checkWalk (range x b e ∷ q .env) (q .first) (place + 1))
+        (from + length (encode (q .first))) (from + length (encode (q .first))) (place + 1 + records (q .first)) (place + 1 + records (q .first))
+        top (top + 5) xs xs₁ ys r refl refl refl (omega arith) kept (v alias-ready)
 
 -- ## A variable's sort
 
@@ -86,23 +86,23 @@ sort-size false = refl
 -- ## Two operands
 
 module _ {s xs : List ℕ} {from l last top : ℕ} (place : ℕ) (q : CheckTwo s from l place last top xs) where
-  abbrev pub two-first : CheckReady (part from s) l (place + 1) last top xs
+  abbrev pub two-first : CheckReady s from l (place + 1) last top xs
   two-first =
       ready-first (place + 1) (q .first) (q .second ∷ []) (q .text)
       (frames-moved (q .frames) (kept-all last xs) (omega arith) (q .frames .below) (omega arith))
 
   abbrev pub FirstFound : List ℕ → Sorted → Type 0
-  FirstFound ys w = SortedAs (checkWalk (q .env) (q .first) (place + 1)) (length (encode (q .first))) (place + 1 + records (q .first)) top xs ys w
+  FirstFound ys w = SortedAs (checkWalk (q .env) (q .first) (place + 1)) (from + length (encode (q .first))) (place + 1 + records (q .first)) top xs ys w
 
-  abbrev TwoTold : Expr → List ℕ → Sorted → Type 0
-  TwoTold e ys w =
-      SortedAs (checkWalk (q .env) e place) (from + length (encodeAll (q .first ∷ q .second ∷ []))) (place + 1 + records (q .first) + records (q .second)) top xs ys w
+  abbrev TwoTold : Expr → List ℕ → Walked → Type 0
+  TwoTold e ys r =
+      CheckedAs (checkWalk (q .env) e place) (from + length (encodeAll (q .first ∷ q .second ∷ []))) (place + 1 + records (q .first) + records (q .second)) top xs ys r
 
   module _ {xs₁ : List ℕ} {w : Sorted} (c : FirstFound xs₁ w) where
-    pub second-text : TermsAt s (from + w .used) l (w .next) (q .second ∷ [])
-    second-text = rest-at (q .first) (q .second ∷ []) (q .text) (ap (λ n. from + n) (c .used-is)) (c .next-is)
+    pub second-text : TermsAt s (w .used) l (w .next) (q .second ∷ [])
+    second-text = rest-at (q .first) (q .second ∷ []) (q .text) (c .used-is) (c .next-is)
 
-    abbrev pub two-second : CheckReady (part (from + w .used) s) l (w .next) last top xs₁
+    abbrev pub two-second : CheckReady s (w .used) l (w .next) last top xs₁
     two-second =
         ready-first (w .next) (q .second) [] second-text
         (frames-moved (q .frames) (c .kept) (q .frames .below) (q .frames .below) (omega arith))
@@ -114,10 +114,10 @@ module _ {s xs : List ℕ} {from l last top : ℕ} (place : ℕ) (q : CheckTwo s
     binary-stops o e = go-on (both o) c ∙ then-refused _ e
 
     pub binary-done : {kind : ℕ} {ys : List ℕ} {w₂ : Sorted} {t : Bool} (k : Operator2 kind) → t ≡ (testKind kind && (w .test && w₂ .test))
-        → SortedAs (checkWalk (q .env) (q .second) (w .next)) (length (encode (q .second))) (w .next + records (q .second)) top xs₁ ys w₂
-        → TwoTold (Binary (k .o) (q .first) (q .second)) ys (record { used = from + w .used + w₂ .used; next = w₂ .next; test = t })
+        → SortedAs (checkWalk (q .env) (q .second) (w .next)) (w .used + length (encode (q .second))) (w .next + records (q .second)) top xs₁ ys w₂
+        → TwoTold (Binary (k .o) (q .first) (q .second)) ys (Done (record { used = w₂ .used; next = w₂ .next; test = t }))
     binary-done {w₂ = w₂} k e d =
-        last-found (from + w .used)
+        last-found
         (go-on (both (k .o)) c ∙ then-ok _ (d .is) ∙ ap ok (ap (λ n. testKind n && (w .test && w₂ .test)) (k .is) ∙ sym e))
         (omega (arith, c .used-is, pair-long (q .first) (q .second))) (omega (arith, c .next-is)) (omega arith) (c .kept) d
 
@@ -145,7 +145,7 @@ module _ {s xs : List ℕ} {from l last top : ℕ} (place : ℕ) (q : CheckTwo s
 
       module _ (x : Name) {inner : ℕ} {xs₃ : List ℕ} (top-is : inner ≡ top + 3 + 5) (kept : Kept (top + 3) xs₂ xs₃)
           (binds : (env : Env Core) (d : Core) → Bound xs₂ last env → Lies xs₂ top 1 d → Bound xs₃ inner (variable x d ∷ env)) where
-        abbrev pub body-ready : CheckReady (part (from + w .used) s) l (w .next) inner (top + 8) xs₃
+        abbrev pub body-ready : CheckReady s (w .used) l (w .next) inner (top + 8) xs₃
         body-ready =
             ready-first {env = variable x (w .test) ∷ q .env} (w .next) (q .second) [] second-text
             (record {
@@ -161,20 +161,18 @@ module _ {s xs : List ℕ} {from l last top : ℕ} (place : ℕ) (q : CheckTwo s
         let-is : checkWalk (q .env) (Let x (q .first) (q .second)) place ≡ x₃
         let-is = go-on (λ s p. checkWalk (variable x s ∷ q .env) (q .second) p) c
 
-        pub let-stops : {n p : ℕ} → x₃ ≡ refuse n p → checkWalk (q .env) (Let x (q .first) (q .second)) place ≡ refuse n p
-        let-stops e = let-is ∙ e
-
-        pub let-done : {ys : List ℕ} {w₂ : Sorted} → SortedAs x₃ (length (encode (q .second))) (w .next + records (q .second)) (top + 8) xs₃ ys w₂
-            → TwoTold (Let x (q .first) (q .second)) ys (record { used = from + w .used + w₂ .used; next = w₂ .next; test = w₂ .test })
-        let-done d =
-            last-found (from + w .used) (let-is ∙ d .is)
-            (omega (arith, c .used-is, pair-long (q .first) (q .second))) (omega (arith, c .next-is)) (omega arith)
-            (kept-then sort-kept (kept-less (omega arith) kept)) d
+        pub let-done : (ys : List ℕ) (r : Walked) → Visited s (w .used) l (w .next) inner (top + 8) xs₃ ys r
+            → TwoTold (Let x (q .first) (q .second)) ys r
+        let-done ys r v =
+            wider (checkWalk (q .env) (Let x (q .first) (q .second)) place) x₃ (from + length (encodeAll (q .first ∷ q .second ∷ []))) (w .used + length (encode (q .second)))
+            (place + 1 + records (q .first) + records (q .second)) (w .next + records (q .second)) top (top + 8) xs xs₃ ys r
+            let-is (omega (arith, c .used-is, pair-long (q .first) (q .second))) (omega (arith, c .next-is)) (omega arith)
+            (kept-then sort-kept (kept-less (omega arith) kept)) (v body-ready)
 
 -- ## Three operands
 
 module _ {s xs : List ℕ} {from l last top : ℕ} (place : ℕ) (q : CheckThree s from l place last top xs) where
-  abbrev pub three-first : CheckReady (part from s) l (place + 1) last top xs
+  abbrev pub three-first : CheckReady s from l (place + 1) last top xs
   three-first =
       ready-first (place + 1) (q .first) (q .second ∷ q .third ∷ []) (q .text)
       (frames-moved (q .frames) (kept-all last xs) (omega arith) (q .frames .below) (omega arith))
@@ -189,13 +187,13 @@ module _ {s xs : List ℕ} {from l last top : ℕ} (place : ℕ) (q : CheckThree
   if-term = IfThenElse (q .first) (q .second) (q .third)
 
   abbrev pub ConditionFound : List ℕ → Sorted → Type 0
-  ConditionFound ys w = SortedAs (checkWalk (q .env) (q .first) (place + 1)) (length (encode (q .first))) (place + 1 + records (q .first)) top xs ys w
+  ConditionFound ys w = SortedAs (checkWalk (q .env) (q .first) (place + 1)) (from + length (encode (q .first))) (place + 1 + records (q .first)) top xs ys w
 
   module _ {xs₁ : List ℕ} {w : Sorted} (c : ConditionFound xs₁ w) where
-    pub branch-texts : TermsAt s (from + w .used) l (w .next) (q .second ∷ q .third ∷ [])
-    branch-texts = rest-at (q .first) (q .second ∷ q .third ∷ []) (q .text) (ap (λ n. from + n) (c .used-is)) (c .next-is)
+    pub branch-texts : TermsAt s (w .used) l (w .next) (q .second ∷ q .third ∷ [])
+    branch-texts = rest-at (q .first) (q .second ∷ q .third ∷ []) (q .text) (c .used-is) (c .next-is)
 
-    abbrev pub three-second : CheckReady (part (from + w .used) s) l (w .next) last top xs₁
+    abbrev pub three-second : CheckReady s (w .used) l (w .next) last top xs₁
     three-second =
         ready-first (w .next) (q .second) (q .third ∷ []) branch-texts
         (frames-moved (q .frames) (c .kept) (q .frames .below) (q .frames .below) (omega arith))
@@ -204,11 +202,11 @@ module _ {s xs : List ℕ} {from l last top : ℕ} (place : ℕ) (q : CheckThree
     first-branch-stops e = go-on branches c ∙ then-refused _ e
 
     module _ {xs₂ : List ℕ} {w₂ : Sorted}
-        (d : SortedAs (checkWalk (q .env) (q .second) (w .next)) (length (encode (q .second))) (w .next + records (q .second)) top xs₁ xs₂ w₂) where
-      pub other-text : TermsAt s (from + w .used + w₂ .used) l (w₂ .next) (q .third ∷ [])
-      other-text = rest-at (q .second) (q .third ∷ []) branch-texts (ap (λ n. from + w .used + n) (d .used-is)) (d .next-is)
+        (d : SortedAs (checkWalk (q .env) (q .second) (w .next)) (w .used + length (encode (q .second))) (w .next + records (q .second)) top xs₁ xs₂ w₂) where
+      pub other-text : TermsAt s (w₂ .used) l (w₂ .next) (q .third ∷ [])
+      other-text = rest-at (q .second) (q .third ∷ []) branch-texts (d .used-is) (d .next-is)
 
-      abbrev pub three-third : CheckReady (part (from + w .used + w₂ .used) s) l (w₂ .next) last top xs₂
+      abbrev pub three-third : CheckReady s (w₂ .used) l (w₂ .next) last top xs₂
       three-third =
           ready-first (w₂ .next) (q .third) [] other-text
           (frames-moved (q .frames) (kept-then (c .kept) (d .kept)) (q .frames .below) (q .frames .below) (omega arith))
@@ -220,16 +218,16 @@ module _ {s xs : List ℕ} {from l last top : ℕ} (place : ℕ) (q : CheckThree
       other-branch-stops e = if-is ∙ then-refused _ e
 
       module _ {ys : List ℕ} {w₃ : Sorted}
-          (e : SortedAs (checkWalk (q .env) (q .third) (w₂ .next)) (length (encode (q .third))) (w₂ .next + records (q .third)) top xs₂ ys w₃) where
+          (e : SortedAs (checkWalk (q .env) (q .third) (w₂ .next)) (w₂ .used + length (encode (q .third))) (w₂ .next + records (q .third)) top xs₂ ys w₃) where
         pub condition-refused : w .test ≡ false → checkWalk (q .env) if-term place ≡ refuse 23 place
         condition-refused h = if-is ∙ then-ok _ (e .is) ∙ ap (λ b. andThen (need b 23 place) (λ _. ok (w₂ .test && w₃ .test))) h
 
         pub if-done : {t : Bool} → w .test ≡ true → t ≡ (w₂ .test && w₃ .test)
             → SortedAs (checkWalk (q .env) if-term place) (from + length (encodeAll (q .first ∷ q .second ∷ q .third ∷ [])))
             (place + 1 + records (q .first) + records (q .second) + records (q .third)) top xs ys
-            (record { used = from + w .used + w₂ .used + w₃ .used; next = w₃ .next; test = t })
+            (record { used = w₃ .used; next = w₃ .next; test = t })
         if-done h i =
-            last-found (from + w .used + w₂ .used)
+            last-found
             (if-is ∙ then-ok _ (e .is) ∙ ap (λ b. andThen (need b 23 place) (λ _. ok (w₂ .test && w₃ .test))) h ∙ ap ok (sym i))
             (omega (arith, c .used-is, d .used-is, triple-long (q .first) (q .second) (q .third))) (omega (arith, c .next-is, d .next-is)) (omega arith)
             (kept-then (c .kept) (d .kept)) e

@@ -1,7 +1,7 @@
 -- Check in code: the words of the contracts of src/check.rt.
 use mathlib.Core.{Path._≡_, Bool.Bool, Bool.true, Bool.false, Bool._&&_, Bool._||_, List.List, List.[], List._∷_}
 use Prim.Native.Nat.{ℕ, _+_, _*_, _^_, _≤_, _<_}
-use lib.{Dec.eqb, ListN.length}
+use lib.{Dec.eqb, ListN.length, ListN.drop}
 use Rattle.expr.specs.{Answers.Answer, Answers.ok, Answers.refuse, Answers.andThen, Answers.need, Terms.Zero, Terms.Top, Terms.Core, Terms.leaf, Terms.Expr, Terms.Plain, Terms.Unary, Terms.Binary, Terms.TestNegation, Terms.IfThenElse, Terms.Let, Terms.LetBitRange, Terms.Var, Terms.Ranged, Terms.atomKind, Terms.op2Kind, Terms.testKind, Terms.records, Terms.depth, Form.decode, Form.maxDepth, Operations.isTestUse, Results.HeadInside}
 use Rattle.expr.specs.declared.records.Head.{Head}
 use Rattle.expr.specs.declared.records.HeadRead.the-variants as head
@@ -74,11 +74,12 @@ pub record Frames (xs : List ℕ) (last top levels : ℕ) (env : Env Bool) : Typ
 
 -- ## What is asked
 
--- of a term
-pub record CheckReady (s : List ℕ) (levels place last top : ℕ) (xs : List ℕ) : Type 0 where
+-- of a term that begins at a byte
+pub record CheckReady (s : List ℕ) (at levels place last top : ℕ) (xs : List ℕ) : Type 0 where
   pub term : Expr
   pub env : Env Bool
-  pub text : TermAt s levels place term
+  pub start : at ≤ length s
+  pub text : TermAt (drop at s) levels place term
   pub frames : Frames xs last top levels env
 
 -- of a whole term: it has good form and at most so many levels, and their bindings have room
@@ -127,7 +128,7 @@ pub record SortedAs (x : Answer Bool) (used next top : ℕ) (xs xs′ : List ℕ
   pub next-is : w .next ≡ next
   pub kept : Kept top xs xs′
 
--- r is the definition's answer x: the bytes that are used, the index of the record behind them, and the sort; or the refusal
+-- r is the definition's answer x: the index of the byte behind the term, the index of the record behind it, and the sort; or the refusal
 abbrev pub CheckedAs : Answer Bool → (used next top : ℕ) → (xs xs′ : List ℕ) → Walked → Type 0
 CheckedAs x used next top xs xs′ (Done w) = SortedAs x used next top xs xs′ w
 CheckedAs x used next top xs xs′ (Refused n p) = x ≡ refuse n p

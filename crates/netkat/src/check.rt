@@ -42,7 +42,7 @@ pub enum Checked {
     Refused(u8, usize),
 }
 
-// The bytes that a term takes, the index of the record behind it, and whether it is a test.
+// The index of the byte behind a term, the index of the record behind it, and whether it is a test.
 pub struct Sorted {
     pub used: usize,
     pub next: usize,
@@ -114,7 +114,7 @@ fn leaf(head: Head, s: &[u8], place: usize, env: Bindings, work: &[u32]) -> Chec
     }
 }
 
-// The answer on a record without children, which takes `used` bytes.
+// The answer on a record without children, which ends at the index `used`.
 fn told(checked: Checked, used: usize, next: usize) -> Walked
     ensures { λ r. ⌜ ((x : Answer Bool) (top : ℕ) (xs : List ℕ) → checkedAnswer checked ≡ x → CheckedAs x used next top xs xs r) ⌝ }
 {
@@ -134,26 +134,27 @@ fn sort_kind(test: bool) -> u32
     2
 }
 
-// The term at the front of the bytes, of at most `left` levels, whose first record has the index `place`: under the bindings around
-// it, which lie below `top`.
+// The term that begins at the byte `at`, of at most `left` levels, whose first record has the index `place`: under the bindings around
+// it, which lie below `top`. It takes the whole bytes and an index, which is faster than a new slice for each call.
 fn check_with_env(
     s: &[u8],
+    at: usize,
     left: usize,
     place: usize,
     env: Bindings,
     work: &mut [u32],
     top: usize,
 ) -> Walked
-    requires { ⌜ CheckReady (now s) left place (env .last) top (now work) ⌝ }
-    ensures { λ r. ⌜ ((q : CheckReady (now (s .entry)) left place (env .last) top (now (work .entry)))
-        → CheckedAs (checkWalk (q .env) (q .term) place) (length (encode (q .term))) (place + records (q .term)) top (now (work .entry)) (now (work .exit)) r) ⌝ }
+    requires { ⌜ CheckReady (now s) at left place (env .last) top (now work) ⌝ }
+    ensures { λ r. ⌜ ((q : CheckReady (now (s .entry)) at left place (env .last) top (now (work .entry)))
+        → CheckedAs (checkWalk (q .env) (q .term) place) (at + length (encode (q .term))) (place + records (q .term)) top (now (work .entry)) (now (work .exit)) r) ⌝ }
 {
-    let head = match expr::records::read_record(s) {
+    let head = match expr::records::read_record(&s[at..]) {
         HeadRead::Refused(number) => return Walked::Refused(number, place),
         HeadRead::Found(head) => head,
     };
     let kind = head.kind;
-    let from = head.size;
+    let from = at + head.size;
     match kind {
         7..=12 => binary(kind, s, from, left - 1, place, env, work, top),
         13..=15 => unary(kind, s, from, left - 1, place, env, work, top),
@@ -172,7 +173,7 @@ fn check_with_env(
             work,
             top,
         ),
-        _ => told(leaf(head, s, place, env, work), from, place + 1),
+        _ => told(leaf(head, &s[at..], place, env, work), from, place + 1),
     }
 }
 
@@ -191,12 +192,12 @@ fn unary(
     ensures { λ r. ⌜ ((k : Operator1 kind) (q : CheckOne (now (s .entry)) from left place (env .last) top (now (work .entry)))
         → CheckedAs (checkWalk (q .env) (Unary (k .o) (q .first)) place) (from + length (encode (q .first))) (place + 1 + records (q .first)) top (now (work .entry)) (now (work .exit)) r) ⌝ }
 {
-    let a = match check_with_env(&s[from..], left, place + 1, env, work, top) {
+    let a = match check_with_env(s, from, left, place + 1, env, work, top) {
         Walked::Refused(number, at) => return Walked::Refused(number, at),
         Walked::Done(a) => a,
     };
     Walked::Done(Sorted {
-        used: from + a.used,
+        used: a.used,
         next: a.next,
         test: false,
     })
@@ -216,18 +217,14 @@ fn test_negation(
     ensures { λ r. ⌜ ((q : CheckOne (now (s .entry)) from left place (env .last) top (now (work .entry)))
         → CheckedAs (checkWalk (q .env) (TestNegation (q .first)) place) (from + length (encode (q .first))) (place + 1 + records (q .first)) top (now (work .entry)) (now (work .exit)) r) ⌝ }
 {
-    let a = match check_with_env(&s[from..], left, place + 1, env, work, top) {
+    let a = match check_with_env(s, from, left, place + 1, env, work, top) {
         Walked::Refused(number, at) => return Walked::Refused(number, at),
         Walked::Done(a) => a,
     };
     if !a.test {
         return Walked::Refused(22, place);
     }
-    Walked::Done(Sorted {
-        used: from + a.used,
-        next: a.next,
-        test: true,
-    })
+    Walked::Done(a)
 }
 
 // The operators with two operands.
@@ -245,18 +242,17 @@ fn binary(
     ensures { λ r. ⌜ ((k : Operator2 kind) (q : CheckTwo (now (s .entry)) from left place (env .last) top (now (work .entry)))
         → CheckedAs (checkWalk (q .env) (Binary (k .o) (q .first) (q .second)) place) (from + length (encodeAll (q .first ∷ q .second ∷ []))) (place + 1 + records (q .first) + records (q .second)) top (now (work .entry)) (now (work .exit)) r) ⌝ }
 {
-    let a = match check_with_env(&s[from..], left, place + 1, env, &mut *work, top) {
+    let a = match check_with_env(s, from, left, place + 1, env, &mut *work, top) {
         Walked::Refused(number, at) => return Walked::Refused(number, at),
         Walked::Done(a) => a,
     };
-    let from2 = from + a.used;
-    let b = match check_with_env(&s[from2..], left, a.next, env, work, top) {
+    let b = match check_with_env(s, a.used, left, a.next, env, work, top) {
         Walked::Refused(number, at) => return Walked::Refused(number, at),
         Walked::Done(b) => b,
     };
     let test = both(expr::records::is_test_kind(kind), both(a.test, b.test));
     Walked::Done(Sorted {
-        used: from2 + b.used,
+        used: b.used,
         next: b.next,
         test,
     })
@@ -276,17 +272,15 @@ fn if_then_else(
     ensures { λ r. ⌜ ((q : CheckThree (now (s .entry)) from left place (env .last) top (now (work .entry)))
         → CheckedAs (checkWalk (q .env) (IfThenElse (q .first) (q .second) (q .third)) place) (from + length (encodeAll (q .first ∷ q .second ∷ q .third ∷ []))) (place + 1 + records (q .first) + records (q .second) + records (q .third)) top (now (work .entry)) (now (work .exit)) r) ⌝ }
 {
-    let c = match check_with_env(&s[from..], left, place + 1, env, &mut *work, top) {
+    let c = match check_with_env(s, from, left, place + 1, env, &mut *work, top) {
         Walked::Refused(number, at) => return Walked::Refused(number, at),
         Walked::Done(c) => c,
     };
-    let from2 = from + c.used;
-    let t = match check_with_env(&s[from2..], left, c.next, env, &mut *work, top) {
+    let t = match check_with_env(s, c.used, left, c.next, env, &mut *work, top) {
         Walked::Refused(number, at) => return Walked::Refused(number, at),
         Walked::Done(t) => t,
     };
-    let from3 = from2 + t.used;
-    let e = match check_with_env(&s[from3..], left, t.next, env, work, top) {
+    let e = match check_with_env(s, t.used, left, t.next, env, work, top) {
         Walked::Refused(number, at) => return Walked::Refused(number, at),
         Walked::Done(e) => e,
     };
@@ -295,7 +289,7 @@ fn if_then_else(
     }
     let test = both(t.test, e.test);
     Walked::Done(Sorted {
-        used: from3 + e.used,
+        used: e.used,
         next: e.next,
         test,
     })
@@ -316,22 +310,13 @@ fn let_variable(
     ensures { λ r. ⌜ ((q : CheckTwo (now (s .entry)) from left place (env .last) top (now (work .entry)))
         → CheckedAs (checkWalk (q .env) (Let name (q .first) (q .second)) place) (from + length (encodeAll (q .first ∷ q .second ∷ []))) (place + 1 + records (q .first) + records (q .second)) top (now (work .entry)) (now (work .exit)) r) ⌝ }
 {
-    let d = match check_with_env(&s[from..], left, place + 1, env, &mut *work, top) {
+    let d = match check_with_env(s, from, left, place + 1, env, &mut *work, top) {
         Walked::Refused(number, at) => return Walked::Refused(number, at),
         Walked::Done(d) => d,
     };
-    let from2 = from + d.used;
     write_record(&mut *work, top, sort_kind(d.test), 0, 0);
     let inner = env.with_variable(&mut *work, top + 3, name, top, 1);
-    let b = match check_with_env(&s[from2..], left, d.next, inner, work, top + 8) {
-        Walked::Refused(number, at) => return Walked::Refused(number, at),
-        Walked::Done(b) => b,
-    };
-    Walked::Done(Sorted {
-        used: from2 + b.used,
-        next: b.next,
-        test: b.test,
-    })
+    check_with_env(s, d.used, left, d.next, inner, work, top + 8)
 }
 
 // LetBitRange. The range is not judged here.
@@ -352,15 +337,7 @@ fn let_bit_range(
         → CheckedAs (checkWalk (q .env) (LetBitRange name start end (q .first)) place) (from + length (encode (q .first))) (place + 1 + records (q .first)) top (now (work .entry)) (now (work .exit)) r) ⌝ }
 {
     let inner = env.with_alias(&mut *work, top, name, start, end);
-    let b = match check_with_env(&s[from..], left, place + 1, inner, work, top + 5) {
-        Walked::Refused(number, at) => return Walked::Refused(number, at),
-        Walked::Done(b) => b,
-    };
-    Walked::Done(Sorted {
-        used: from + b.used,
-        next: b.next,
-        test: b.test,
-    })
+    check_with_env(s, from, left, place + 1, inner, work, top + 5)
 }
 
 // Check of a term of good form and of at most `levels` levels.
@@ -368,7 +345,7 @@ fn check_within(term: &[u8], levels: usize, work: &mut [u32]) -> Checked
     requires { ⌜ CheckRoom (now term) levels (now work) ⌝ }
     ensures { λ r. ⌜ checkedAnswer r ≡ checkBytes (now (term .entry)) ⌝ }
 {
-    match check_with_env(term, levels, 0, Bindings::none(), work, 0) {
+    match check_with_env(term, 0, levels, 0, Bindings::none(), work, 0) {
         Walked::Refused(number, place) => Checked::Refused(number, place),
         Walked::Done(sorted) => Checked::Test(sorted.test),
     }

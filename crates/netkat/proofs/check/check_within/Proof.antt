@@ -23,7 +23,7 @@ returns : tie.Need-returns
 returns c =
     let q = c .before .before .before .before .before .before .before .before .before .before .pre in
     let w = c .before .before .before .before .before in
-    sym (stopped (w .check-with-env .last .1 .1 .1 .1 .0) (w .check-with-env .result) (whole-ready q (λ i. omega (arith, c .before .before .before .before .before .before .before .before .before .shared-slice-known .given i)) (w .before .before .none .ensures)) (w .check-with-env .ensures) (c .before .number .given .1)) ∙ whole-is q
+    sym (stopped (w .check-with-env .last .1 .1 .1 .1 .1 .0) (w .check-with-env .result) (whole-ready q (λ i. omega (arith, c .before .before .before .before .before .before .before .before .before .shared-slice-known .given i)) (w .before .before .none .ensures)) (w .check-with-env .ensures) (c .before .number .given .1)) ∙ whole-is q
 
 enum-known-sorted : tie.Need-enum-known-sorted
 enum-known-sorted c = search needs
@@ -35,7 +35,7 @@ returns-2 : tie.Need-returns-2
 returns-2 c =
     let q = c .before .before .before .before .before .before .before .before .before .before .pre in
     let w = c .before .before .before .before .before in
-    sym (found (w .check-with-env .last .1 .1 .1 .1 .0) (w .check-with-env .result) (whole-ready q (λ i. omega (arith, c .before .before .before .before .before .before .before .before .before .shared-slice-known .given i)) (w .before .before .none .ensures)) (w .check-with-env .ensures) (c .before .sorted .given .1) .is) ∙ whole-is q
+    sym (found (w .check-with-env .last .1 .1 .1 .1 .1 .0) (w .check-with-env .result) (whole-ready q (λ i. omega (arith, c .before .before .before .before .before .before .before .before .before .shared-slice-known .given i)) (w .before .before .none .ensures)) (w .check-with-env .ensures) (c .before .sorted .given .1) .is) ∙ whole-is q
 
 pub check-within-spec : {M : Type 1} → statement M
 check-within-spec =

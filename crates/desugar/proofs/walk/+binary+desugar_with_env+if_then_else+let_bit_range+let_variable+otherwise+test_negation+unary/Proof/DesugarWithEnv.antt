@@ -68,7 +68,7 @@ module _ (t : ℕ) where
   desugar-with-env-enum-known-head c = search needs
 
   pub desugar-with-env-add-from : desugar-with-env-lts.Need-add-from (desugar-with-env-claims t) (desugar-with-env-at t) desugar-with-env.Post
-  desugar-with-env-add-from c = let e = c .before .before .before .before .before .before .before .before in omega (arith, e .good .0, record-inside (e .args .place) (e .pre .1) (head-at (c .before) (e .pre .1)))
+  desugar-with-env-add-from c = let e = c .before .before .before .before .before .before .before .before in omega (arith, e .good .0, record-inside (e .args .s .now) (e .args .at) (e .pre .1 .start) (head-at (c .before) (e .pre .1)))
 
   pub desugar-with-env-sub-test-negation : desugar-with-env-lts.Need-sub-test-negation (desugar-with-env-claims t) (desugar-with-env-at t) desugar-with-env.Post
   desugar-with-env-sub-test-negation c = let q = c .before .before .before .before .before .before .before .before .before .pre .1 in some-left (c .before .before .before .before .before .before .before .before .before .args .place) q (head-at (c .before .before) q)

@@ -37,7 +37,7 @@ abbrev pub μ-binary : Measures 2 binary-kinds.ps ℕ
 μ-binary κs a = 2 * a .1 .1 .1 .0 + 1
 
 abbrev pub μ-check-with-env : Measures 2 check-with-env-kinds.ps ℕ
-μ-check-with-env κs a = 2 * a .1 .0
+μ-check-with-env κs a = 2 * a .1 .1 .0
 
 abbrev pub μ-if-then-else : Measures 2 if-then-else-kinds.ps ℕ
 μ-if-then-else κs a = 2 * a .1 .1 .0 + 1

@@ -1,12 +1,8 @@
 -- The needs of `let_bit_range`.
 use borrow.Author.Needs.{needs}
 use native.Mathlib.Omega.{arith}
-use mathlib.Core.List.{[]}
 use Prim.Native.Nat.{ℕ, _+_}
-use Rattle.expr.proofs.Slices.{part}
-use Rattle.desugar.proofs.WalkLaws.{used-inside}
 use Rattle.netkat.specs.CheckWords.{CheckReady, CheckOne}
-use Rattle.netkat.proofs.CheckLaws.{found, stopped}
 use Rattle.netkat.proofs.CheckSteps.{alias-ready, alias-done}
 use Rattle.netkat.proofs.check.let_bit_range.Reads as let-bit-range
 use Rattle.netkat.proofs.check.+binary+check_with_env+if_then_else+let_bit_range+let_variable+test_negation+unary.Lts-let_bit_range as let-bit-range-lts
@@ -26,20 +22,11 @@ module _ (t : ℕ) where
   abbrev start : Bind → Entry
   start c = c .before .before .before .before
 
-  abbrev child : (c : Bind) (q : Q (start c)) → CheckReady (part (start c .args .from) (start c .args .s .now)) (start c .args .left) (start c .args .place + 1) (c .with-alias .result .last) (start c .args .top + 5) (c .with-alias .last .1 .0)
+  abbrev child : (c : Bind) (q : Q (start c)) → CheckReady (start c .args .s .now) (start c .args .from) (start c .args .left) (start c .args .place + 1) (c .with-alias .result .last) (start c .args .top + 5) (c .with-alias .last .1 .0)
   child c q = alias-ready (start c .args .place) q (start c .args .name) (start c .args .start) (start c .args .end) (c .with-alias .ensures .0 .0) (c .with-alias .ensures .0 .1) (c .with-alias .ensures .1)
 
   pub let-bit-range-with-alias-requires : let-bit-range-lts.Need-with-alias-requires (let-bit-range-claims t) (let-bit-range-at t) let-bit-range.Post
   let-bit-range-with-alias-requires c κs = let q = c .before .before .before .pre .1 in record { above = q .frames .below; room = omega (arith, q .frames .room); small = omega (arith, q .frames .small) }
-
-  pub let-bit-range-sub-check-with-env : let-bit-range-lts.Need-sub-check-with-env (let-bit-range-claims t) (let-bit-range-at t) let-bit-range.Post
-  let-bit-range-sub-check-with-env c = search needs
-
-  pub let-bit-range-part-check-with-env-start : let-bit-range-lts.Need-part-check-with-env-start (let-bit-range-claims t) (let-bit-range-at t) let-bit-range.Post
-  let-bit-range-part-check-with-env-start c = search needs
-
-  pub let-bit-range-part-check-with-env-end : let-bit-range-lts.Need-part-check-with-env-end (let-bit-range-claims t) (let-bit-range-at t) let-bit-range.Post
-  let-bit-range-part-check-with-env-end c = search needs
 
   pub let-bit-range-add-check-with-env : let-bit-range-lts.Need-add-check-with-env (let-bit-range-claims t) (let-bit-range-at t) let-bit-range.Post
   let-bit-range-add-check-with-env c = search needs
@@ -48,25 +35,10 @@ module _ (t : ℕ) where
   let-bit-range-add-check-with-env-2 c = search needs
 
   pub let-bit-range-check-with-env-requires : let-bit-range-lts.Need-check-with-env-requires (let-bit-range-claims t) (let-bit-range-at t) let-bit-range.Post
-  let-bit-range-check-with-env-requires c κs = let b = c .before .before .before .before in (omega (arith, c .before .before .before .before .before .before .before .before .pre .0), child b (c .before .before .before .before .before .before .before .before .pre .1))
-
-  pub let-bit-range-enum-known-number : let-bit-range-lts.Need-enum-known-number (let-bit-range-claims t) (let-bit-range-at t) let-bit-range.Post
-  let-bit-range-enum-known-number c = search needs
+  let-bit-range-check-with-env-requires c κs = let b = c .before .before .before in (omega (arith, c .before .before .before .before .before .before .before .pre .0), child b (c .before .before .before .before .before .before .before .pre .1))
 
   pub let-bit-range-same-length : let-bit-range-lts.Need-same-length (let-bit-range-claims t) (let-bit-range-at t) let-bit-range.Post
   let-bit-range-same-length c = search needs
 
   pub let-bit-range-returns : let-bit-range-lts.Need-returns (let-bit-range-claims t) (let-bit-range-at t) let-bit-range.Post
-  let-bit-range-returns c = λ q. stopped _ _ (child (c .before .before .before .before .before .before .before .before .before .before) q) (c .before .before .before .before .before .check-with-env .ensures) (c .before .number .given .1)
-
-  pub let-bit-range-enum-known-b : let-bit-range-lts.Need-enum-known-b (let-bit-range-claims t) (let-bit-range-at t) let-bit-range.Post
-  let-bit-range-enum-known-b c = search needs
-
-  pub let-bit-range-add-t20 : let-bit-range-lts.Need-add-t20 (let-bit-range-claims t) (let-bit-range-at t) let-bit-range.Post
-  let-bit-range-add-t20 c = let q = c .before .before .before .before .before .before .before .before .before .before .before .before .before .before .before .pre .1 in omega (arith, c .before .before .before .before .before .before .before .before .before .before .before .before .before .before .before .good .1 .1 .1 .0, used-inside (q .first) [] (q .text), found (c .before .before .before .before .before .before .check-with-env .last .1 .1 .1 .1 .0) _ (child (c .before .before .before .before .before .before .before .before .before .before .before) q) (c .before .before .before .before .before .before .check-with-env .ensures) (c .before .before .b .given .1) .used-is)
-
-  pub let-bit-range-same-length-2 : let-bit-range-lts.Need-same-length-2 (let-bit-range-claims t) (let-bit-range-at t) let-bit-range.Post
-  let-bit-range-same-length-2 c = search needs
-
-  pub let-bit-range-returns-2 : let-bit-range-lts.Need-returns-2 (let-bit-range-claims t) (let-bit-range-at t) let-bit-range.Post
-  let-bit-range-returns-2 c = λ q. let b = c .before .before .before .before .before .before .before .before .before .before .before in alias-done (c .before .before .before .before .before .before .before .before .before .before .before .before .before .before .before .args .place) q (c .before .before .before .before .before .before .before .before .before .before .before .before .before .before .before .args .name) (c .before .before .before .before .before .before .before .before .before .before .before .before .before .before .before .args .start) (c .before .before .before .before .before .before .before .before .before .before .before .before .before .before .before .args .end) (b .with-alias .ensures .0 .0) (b .with-alias .ensures .0 .1) (b .with-alias .ensures .1) (found (c .before .before .before .before .before .before .check-with-env .last .1 .1 .1 .1 .0) _ (child (c .before .before .before .before .before .before .before .before .before .before .before) q) (c .before .before .before .before .before .before .check-with-env .ensures) (c .before .before .b .given .1))
+  let-bit-range-returns c = λ q. let b = c .before .before .before .before .before .before in let a = start b .args in alias-done (a .place) q (a .name) (a .start) (a .end) (b .with-alias .ensures .0 .0) (b .with-alias .ensures .0 .1) (b .with-alias .ensures .1) (c .before .before .check-with-env .last .1 .1 .1 .1 .1 .0) (c .before .before .check-with-env .result) (c .before .before .check-with-env .ensures)

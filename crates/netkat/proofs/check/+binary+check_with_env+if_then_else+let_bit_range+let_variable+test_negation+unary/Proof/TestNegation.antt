@@ -1,11 +1,10 @@
 -- The needs of `test_negation`.
 use borrow.Author.Needs.{needs}
 use native.Mathlib.Omega.{arith}
-use mathlib.Core.List.{List, []}
+use mathlib.Core.List.{List}
 use Prim.Native.Nat.{ℕ, _+_}
 use borrow.Author.Tests.{not-true, not-false}
-use Rattle.expr.proofs.Slices.{part}
-use Rattle.desugar.proofs.WalkLaws.{used-inside, then-refused}
+use Rattle.desugar.proofs.WalkLaws.{then-refused}
 use Rattle.netkat.specs.declared.check.Sorted.{Sorted}
 use Rattle.netkat.specs.CheckWords.{CheckReady, CheckOne}
 use Rattle.netkat.proofs.CheckLaws.{found, stopped}
@@ -21,7 +20,7 @@ module _ (t : ℕ) where
   abbrev Q : Entry → Type 0
   Q c = CheckOne (c .args .s .now) (c .args .from) (c .args .left) (c .args .place) (c .args .env .last) (c .args .top) (c .args .work .now)
 
-  abbrev child : (c : Entry) (q : Q c) → CheckReady (part (c .args .from) (c .args .s .now)) (c .args .left) (c .args .place + 1) (c .args .env .last) (c .args .top) (c .args .work .now)
+  abbrev child : (c : Entry) (q : Q c) → CheckReady (c .args .s .now) (c .args .from) (c .args .left) (c .args .place + 1) (c .args .env .last) (c .args .top) (c .args .work .now)
   child c q = one-first (c .args .place) q
 
   -- the first child is judged
@@ -29,31 +28,22 @@ module _ (t : ℕ) where
   Had = test-negation-lts.After-known-told2 (test-negation-claims t) (test-negation-at t) test-negation.Post
 
   abbrev start : Had → Entry
-  start c = c .before .before .before .before .before .before .before .before .before .before
+  start c = c .before .before .before .before .before .before .before .before .before
 
   abbrev w₁ : Had → Sorted
   w₁ c = c .before .a .given .0 .0
 
   abbrev m₁ : Had → List ℕ
-  m₁ c = c .before .before .before .before .before .check-with-env .last .1 .1 .1 .1 .0
+  m₁ c = c .before .before .before .before .before .check-with-env .last .1 .1 .1 .1 .1 .0
 
   found₁ : (c : Had) (q : Q (start c)) → OneFound (start c .args .place) q (m₁ c) (w₁ c)
   found₁ c q = found (m₁ c) _ (child (start c) q) (c .before .before .before .before .before .check-with-env .ensures) (c .before .a .given .1)
-
-  pub test-negation-sub-check-with-env : test-negation-lts.Need-sub-check-with-env (test-negation-claims t) (test-negation-at t) test-negation.Post
-  test-negation-sub-check-with-env c = search needs
-
-  pub test-negation-part-check-with-env-start : test-negation-lts.Need-part-check-with-env-start (test-negation-claims t) (test-negation-at t) test-negation.Post
-  test-negation-part-check-with-env-start c = search needs
-
-  pub test-negation-part-check-with-env-end : test-negation-lts.Need-part-check-with-env-end (test-negation-claims t) (test-negation-at t) test-negation.Post
-  test-negation-part-check-with-env-end c = search needs
 
   pub test-negation-add-check-with-env : test-negation-lts.Need-add-check-with-env (test-negation-claims t) (test-negation-at t) test-negation.Post
   test-negation-add-check-with-env c = search needs
 
   pub test-negation-check-with-env-requires : test-negation-lts.Need-check-with-env-requires (test-negation-claims t) (test-negation-at t) test-negation.Post
-  test-negation-check-with-env-requires c κs = let s = c .before .before .before .before in (omega (arith, s .pre .0), child s (s .pre .1))
+  test-negation-check-with-env-requires c κs = let s = c .before .before .before in (omega (arith, s .pre .0), child s (s .pre .1))
 
   pub test-negation-enum-known-number : test-negation-lts.Need-enum-known-number (test-negation-claims t) (test-negation-at t) test-negation.Post
   test-negation-enum-known-number c = search needs
@@ -62,7 +52,7 @@ module _ (t : ℕ) where
   test-negation-same-length c = search needs
 
   pub test-negation-returns : test-negation-lts.Need-returns (test-negation-claims t) (test-negation-at t) test-negation.Post
-  test-negation-returns c = λ q. then-refused _ (stopped _ _ (child (c .before .before .before .before .before .before .before .before .before .before) q) (c .before .before .before .before .before .check-with-env .ensures) (c .before .number .given .1))
+  test-negation-returns c = λ q. then-refused _ (stopped _ _ (child (c .before .before .before .before .before .before .before .before .before) q) (c .before .before .before .before .before .check-with-env .ensures) (c .before .number .given .1))
 
   pub test-negation-enum-known-a : test-negation-lts.Need-enum-known-a (test-negation-claims t) (test-negation-at t) test-negation.Post
   test-negation-enum-known-a c = search needs
@@ -71,13 +61,10 @@ module _ (t : ℕ) where
   test-negation-same-length-2 c = search needs
 
   pub test-negation-returns-2 : test-negation-lts.Need-returns-2 (test-negation-claims t) (test-negation-at t) test-negation.Post
-  test-negation-returns-2 c = λ q. negation-refused (c .before .before .before .before .before .before .before .before .before .before .before .before .args .place) q (found₁ (c .before .before) q) (not-true _ (c .if1 .taken))
-
-  pub test-negation-add-t14 : test-negation-lts.Need-add-t14 (test-negation-claims t) (test-negation-at t) test-negation.Post
-  test-negation-add-t14 c = let q = c .before .before .before .before .before .before .before .before .before .before .before .before .before .pre .1 in omega (arith, c .before .before .before .before .before .before .before .before .before .before .before .before .before .good .0, used-inside (q .first) [] (q .text), found₁ (c .before .before .before) q .used-is)
+  test-negation-returns-2 c = λ q. negation-refused (c .before .before .before .before .before .before .before .before .before .before .before .args .place) q (found₁ (c .before .before) q) (not-true _ (c .if1 .taken))
 
   pub test-negation-same-length-3 : test-negation-lts.Need-same-length-3 (test-negation-claims t) (test-negation-at t) test-negation.Post
   test-negation-same-length-3 c = search needs
 
   pub test-negation-returns-3 : test-negation-lts.Need-returns-3 (test-negation-claims t) (test-negation-at t) test-negation.Post
-  test-negation-returns-3 c = λ q. negation-done (c .before .before .before .before .before .before .before .before .before .before .before .before .before .args .place) q (found₁ (c .before .before .before) q) (not-false _ (c .before .if1 .left))
+  test-negation-returns-3 c = λ q. negation-done (c .before .before .before .before .before .before .before .before .before .before .before .args .place) q (found₁ (c .before .before) q) (not-false _ (c .if1 .left))
