@@ -72,10 +72,3 @@ last-found e used next low kept c =
       next-is = c .next-is ∙ next;
       kept = kept-then kept (kept-less low (c .kept));
     }
-
--- the same for an answer, where the whole has the answer of its last child
-pub wider : (x y : Answer Bool) (used used₁ next next₁ top top₁ : ℕ) (xs xs₁ ys : List ℕ) (r : Walked)
-    → x ≡ y → used₁ ≡ used → next₁ ≡ next → top ≤ top₁ → Kept top xs xs₁ → CheckedAs y used₁ next₁ top₁ xs₁ ys r
-    → CheckedAs x used next top xs ys r
-wider x y used used₁ next next₁ top top₁ xs xs₁ ys (Done w) e u n low kept c = last-found (e ∙ c .is) u n low kept c
-wider x y used used₁ next next₁ top top₁ xs xs₁ ys (Refused k p) e u n low kept c = e ∙ c

@@ -23,7 +23,7 @@ use Rattle.netkat.specs.CheckWords.{checkWalk, flags, sortCore, sortKind
 use Rattle.netkat.specs.declared.check.Sorted.{Sorted}
 use Rattle.netkat.specs.declared.check.Walked.{Walked}
 use Rattle.netkat.specs.declared.check.Walked.the-variants.{Done}
-use Rattle.netkat.proofs.CheckLaws.{Visited, frames-moved, go-on, last-found, ready-first, wider}
+use Rattle.netkat.proofs.CheckLaws.{frames-moved, go-on, last-found, ready-first}
 
 -- ## One operand
 
@@ -66,12 +66,10 @@ module _ {s xs : List ℕ} {from l last top : ℕ} (place : ℕ) (q : CheckOne s
           small = omega (arith, q .frames .small);
         })
 
-    pub alias-done : (ys : List ℕ) (r : Walked) → Visited s from l (place + 1) inner (top + 5) xs₁ ys r
-        → OneTold (LetBitRange x b e (q .first)) ys r
-    alias-done ys r v =
-        wider (checkWalk (q .env) (LetBitRange x b e (q .first)) place) (checkWalk (range x b e ∷ q .env) (q .first) (place + 1))
-        (from + length (encode (q .first))) (from + length (encode (q .first))) (place + 1 + records (q .first)) (place + 1 + records (q .first))
-        top (top + 5) xs xs₁ ys r refl refl refl (omega arith) kept (v alias-ready)
+    pub alias-done : {w : Sorted} {ys : List ℕ}
+        → SortedAs (checkWalk (range x b e ∷ q .env) (q .first) (place + 1)) (from + length (encode (q .first))) (place + 1 + records (q .first)) (top + 5) xs₁ ys w
+        → OneTold (LetBitRange x b e (q .first)) ys (Done w)
+    alias-done c = last-found (c .is) refl refl (omega arith) kept c
 
 -- ## A variable's sort
 
@@ -161,13 +159,15 @@ module _ {s xs : List ℕ} {from l last top : ℕ} (place : ℕ) (q : CheckTwo s
         let-is : checkWalk (q .env) (Let x (q .first) (q .second)) place ≡ x₃
         let-is = go-on (λ s p. checkWalk (variable x s ∷ q .env) (q .second) p) c
 
-        pub let-done : (ys : List ℕ) (r : Walked) → Visited s (w .used) l (w .next) inner (top + 8) xs₃ ys r
-            → TwoTold (Let x (q .first) (q .second)) ys r
-        let-done ys r v =
-            wider (checkWalk (q .env) (Let x (q .first) (q .second)) place) x₃ (from + length (encodeAll (q .first ∷ q .second ∷ []))) (w .used + length (encode (q .second)))
-            (place + 1 + records (q .first) + records (q .second)) (w .next + records (q .second)) top (top + 8) xs xs₃ ys r
-            let-is (omega (arith, c .used-is, pair-long (q .first) (q .second))) (omega (arith, c .next-is)) (omega arith)
-            (kept-then sort-kept (kept-less (omega arith) kept)) (v body-ready)
+        pub let-stops : {n p : ℕ} → x₃ ≡ refuse n p → checkWalk (q .env) (Let x (q .first) (q .second)) place ≡ refuse n p
+        let-stops e = let-is ∙ e
+
+        pub let-done : {ys : List ℕ} {w₂ : Sorted} → SortedAs x₃ (w .used + length (encode (q .second))) (w .next + records (q .second)) (top + 8) xs₃ ys w₂
+            → TwoTold (Let x (q .first) (q .second)) ys (Done w₂)
+        let-done d =
+            last-found (let-is ∙ d .is)
+            (omega (arith, c .used-is, pair-long (q .first) (q .second))) (omega (arith, c .next-is)) (omega arith)
+            (kept-then sort-kept (kept-less (omega arith) kept)) d
 
 -- ## Three operands
 

@@ -295,7 +295,8 @@ fn if_then_else(
     })
 }
 
-// Let: whether the definition is a test stays below its frame while the body is judged.
+// Let: whether the definition is a test stays below its frame while the body is judged. Here and in `let_bit_range` the body's answer is
+// taken apart and built again: where they end in the call, every answer of the walk goes through memory, which is slower.
 fn let_variable(
     name: u32,
     s: &[u8],
@@ -316,7 +317,11 @@ fn let_variable(
     };
     write_record(&mut *work, top, sort_kind(d.test), 0, 0);
     let inner = env.with_variable(&mut *work, top + 3, name, top, 1);
-    check_with_env(s, d.used, left, d.next, inner, work, top + 8)
+    let b = match check_with_env(s, d.used, left, d.next, inner, work, top + 8) {
+        Walked::Refused(number, at) => return Walked::Refused(number, at),
+        Walked::Done(b) => b,
+    };
+    Walked::Done(b)
 }
 
 // LetBitRange. The range is not judged here.
@@ -337,7 +342,11 @@ fn let_bit_range(
         → CheckedAs (checkWalk (q .env) (LetBitRange name start end (q .first)) place) (from + length (encode (q .first))) (place + 1 + records (q .first)) top (now (work .entry)) (now (work .exit)) r) ⌝ }
 {
     let inner = env.with_alias(&mut *work, top, name, start, end);
-    check_with_env(s, from, left, place + 1, inner, work, top + 5)
+    let b = match check_with_env(s, from, left, place + 1, inner, work, top + 5) {
+        Walked::Refused(number, at) => return Walked::Refused(number, at),
+        Walked::Done(b) => b,
+    };
+    Walked::Done(b)
 }
 
 // Check of a term of good form and of at most `levels` levels.

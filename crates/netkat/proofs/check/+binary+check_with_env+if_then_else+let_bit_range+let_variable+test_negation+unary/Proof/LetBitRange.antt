@@ -3,6 +3,7 @@ use borrow.Author.Needs.{needs}
 use native.Mathlib.Omega.{arith}
 use Prim.Native.Nat.{ℕ, _+_}
 use Rattle.netkat.specs.CheckWords.{CheckReady, CheckOne}
+use Rattle.netkat.proofs.CheckLaws.{found, stopped}
 use Rattle.netkat.proofs.CheckSteps.{alias-ready, alias-done}
 use Rattle.netkat.proofs.check.let_bit_range.Reads as let-bit-range
 use Rattle.netkat.proofs.check.+binary+check_with_env+if_then_else+let_bit_range+let_variable+test_negation+unary.Lts-let_bit_range as let-bit-range-lts
@@ -37,8 +38,20 @@ module _ (t : ℕ) where
   pub let-bit-range-check-with-env-requires : let-bit-range-lts.Need-check-with-env-requires (let-bit-range-claims t) (let-bit-range-at t) let-bit-range.Post
   let-bit-range-check-with-env-requires c κs = let b = c .before .before .before in (omega (arith, c .before .before .before .before .before .before .before .pre .0), child b (c .before .before .before .before .before .before .before .pre .1))
 
+  pub let-bit-range-enum-known-number : let-bit-range-lts.Need-enum-known-number (let-bit-range-claims t) (let-bit-range-at t) let-bit-range.Post
+  let-bit-range-enum-known-number c = search needs
+
   pub let-bit-range-same-length : let-bit-range-lts.Need-same-length (let-bit-range-claims t) (let-bit-range-at t) let-bit-range.Post
   let-bit-range-same-length c = search needs
 
   pub let-bit-range-returns : let-bit-range-lts.Need-returns (let-bit-range-claims t) (let-bit-range-at t) let-bit-range.Post
-  let-bit-range-returns c = λ q. let b = c .before .before .before .before .before .before in let a = start b .args in alias-done (a .place) q (a .name) (a .start) (a .end) (b .with-alias .ensures .0 .0) (b .with-alias .ensures .0 .1) (b .with-alias .ensures .1) (c .before .before .check-with-env .last .1 .1 .1 .1 .1 .0) (c .before .before .check-with-env .result) (c .before .before .check-with-env .ensures)
+  let-bit-range-returns c = λ q. stopped _ _ (child (c .before .before .before .before .before .before .before .before .before) q) (c .before .before .before .before .before .check-with-env .ensures) (c .before .number .given .1)
+
+  pub let-bit-range-enum-known-b : let-bit-range-lts.Need-enum-known-b (let-bit-range-claims t) (let-bit-range-at t) let-bit-range.Post
+  let-bit-range-enum-known-b c = search needs
+
+  pub let-bit-range-same-length-2 : let-bit-range-lts.Need-same-length-2 (let-bit-range-claims t) (let-bit-range-at t) let-bit-range.Post
+  let-bit-range-same-length-2 c = search needs
+
+  pub let-bit-range-returns-2 : let-bit-range-lts.Need-returns-2 (let-bit-range-claims t) (let-bit-range-at t) let-bit-range.Post
+  let-bit-range-returns-2 c = λ q. let b = c .before .before .before .before .before .before .before .before .before in alias-done (c .before .before .before .before .before .before .before .before .before .before .before .before .before .args .place) q (c .before .before .before .before .before .before .before .before .before .before .before .before .before .args .name) (c .before .before .before .before .before .before .before .before .before .before .before .before .before .args .start) (c .before .before .before .before .before .before .before .before .before .before .before .before .before .args .end) (b .with-alias .ensures .0 .0) (b .with-alias .ensures .0 .1) (b .with-alias .ensures .1) (found (c .before .before .before .before .before .check-with-env .last .1 .1 .1 .1 .1 .0) _ (child (c .before .before .before .before .before .before .before .before .before) q) (c .before .before .before .before .before .check-with-env .ensures) (c .before .b .given .1))

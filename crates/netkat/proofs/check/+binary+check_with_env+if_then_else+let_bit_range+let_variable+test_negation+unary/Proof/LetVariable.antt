@@ -8,7 +8,7 @@ use Rattle.desugar.proofs.WalkLaws.{then-refused}
 use Rattle.netkat.specs.declared.check.Sorted.{Sorted}
 use Rattle.netkat.specs.CheckWords.{CheckReady, CheckTwo}
 use Rattle.netkat.proofs.CheckLaws.{found, stopped}
-use Rattle.netkat.proofs.CheckSteps.{FirstFound, two-first, frame-room, body-ready, let-done}
+use Rattle.netkat.proofs.CheckSteps.{FirstFound, two-first, frame-room, body-ready, let-stops, let-done}
 use Rattle.netkat.proofs.check.let_variable.Reads as let-variable
 use Rattle.netkat.proofs.check.+binary+check_with_env+if_then_else+let_bit_range+let_variable+test_negation+unary.Lts-let_variable as let-variable-lts
 use Rattle.netkat.proofs.check.+binary+check_with_env+if_then_else+let_bit_range+let_variable+test_negation+unary.Proof.Common.{let-variable-claims, let-variable-at}
@@ -88,8 +88,20 @@ module _ (t : ℕ) where
   pub let-variable-check-with-env-requires-2 : let-variable-lts.Need-check-with-env-requires-2 (let-variable-claims t) (let-variable-at t) let-variable.Post
   let-variable-check-with-env-requires-2 c κs = (omega (arith, c .before .before .before .before .before .before .before .before .before .before .before .before .before .before .before .before .before .before .before .pre .0), body (c .before .before .before) (c .before .before .before .before .before .before .before .before .before .before .before .before .before .before .before .before .before .before .before .pre .1))
 
+  pub let-variable-enum-known-number-2 : let-variable-lts.Need-enum-known-number-2 (let-variable-claims t) (let-variable-at t) let-variable.Post
+  let-variable-enum-known-number-2 c = search needs
+
   pub let-variable-same-length-2 : let-variable-lts.Need-same-length-2 (let-variable-claims t) (let-variable-at t) let-variable.Post
-  let-variable-same-length-2 c = c .before .before .check-with-env2 .kept .1 .1 .1 .1 .1 .0 ∙ c .before .before .before .before .before .before .with-variable .kept .1 .0 ∙ c .before .before .before .before .before .before .before .before .before .before .write-record .kept .0 ∙ c .before .before .before .before .before .before .before .before .before .before .before .before .before .before .before .before .before .before .check-with-env .kept .1 .1 .1 .1 .1 .0
+  let-variable-same-length-2 c = c .before .before .before .before .before .check-with-env2 .kept .1 .1 .1 .1 .1 .0 ∙ c .before .before .before .before .before .before .before .before .before .with-variable .kept .1 .0 ∙ c .before .before .before .before .before .before .before .before .before .before .before .before .before .write-record .kept .0 ∙ c .before .before .before .before .before .before .before .before .before .before .before .before .before .before .before .before .before .before .before .before .before .check-with-env .kept .1 .1 .1 .1 .1 .0
 
   pub let-variable-returns-2 : let-variable-lts.Need-returns-2 (let-variable-claims t) (let-variable-at t) let-variable.Post
-  let-variable-returns-2 c = λ q. let b = c .before .before .before .before .before .before in let h = had b in let-done (start h .args .place) q (found₁ h q) (b .before .before .before .before .before .sort-kind .ensures) (b .before .before .before .before .write-record .ensures) (start h .args .name) (b .with-variable .ensures .0 .0) (b .with-variable .ensures .0 .1) (b .with-variable .ensures .1) (c .before .before .check-with-env2 .last .1 .1 .1 .1 .1 .0) (c .before .before .check-with-env2 .result) (c .before .before .check-with-env2 .ensures)
+  let-variable-returns-2 c = λ q. let-stops (c .before .before .before .before .before .before .before .before .before .before .before .before .before .before .before .before .before .before .before .before .before .before .before .before .before .args .place) q (found₁ (c .before .before .before .before .before .before .before .before .before .before .before .before .before .before .before .before) q) (c .before .before .before .before .before .before .before .before .before .before .before .before .before .before .sort-kind .ensures) (c .before .before .before .before .before .before .before .before .before .before .before .before .before .write-record .ensures) (c .before .before .before .before .before .before .before .before .before .before .before .before .before .before .before .before .before .before .before .before .before .before .before .before .before .args .name) (c .before .before .before .before .before .before .before .before .before .with-variable .ensures .0 .0) (c .before .before .before .before .before .before .before .before .before .with-variable .ensures .0 .1) (c .before .before .before .before .before .before .before .before .before .with-variable .ensures .1) (stopped _ _ (body (c .before .before .before .before .before .before .before .before .before) q) (c .before .before .before .before .before .check-with-env2 .ensures) (c .before .number2 .given .1))
+
+  pub let-variable-enum-known-b : let-variable-lts.Need-enum-known-b (let-variable-claims t) (let-variable-at t) let-variable.Post
+  let-variable-enum-known-b c = search needs
+
+  pub let-variable-same-length-3 : let-variable-lts.Need-same-length-3 (let-variable-claims t) (let-variable-at t) let-variable.Post
+  let-variable-same-length-3 c = c .before .before .before .before .before .check-with-env2 .kept .1 .1 .1 .1 .1 .0 ∙ c .before .before .before .before .before .before .before .before .before .with-variable .kept .1 .0 ∙ c .before .before .before .before .before .before .before .before .before .before .before .before .before .write-record .kept .0 ∙ c .before .before .before .before .before .before .before .before .before .before .before .before .before .before .before .before .before .before .before .before .before .check-with-env .kept .1 .1 .1 .1 .1 .0
+
+  pub let-variable-returns-3 : let-variable-lts.Need-returns-3 (let-variable-claims t) (let-variable-at t) let-variable.Post
+  let-variable-returns-3 c = λ q. let-done (c .before .before .before .before .before .before .before .before .before .before .before .before .before .before .before .before .before .before .before .before .before .before .before .before .before .args .place) q (found₁ (c .before .before .before .before .before .before .before .before .before .before .before .before .before .before .before .before) q) (c .before .before .before .before .before .before .before .before .before .before .before .before .before .before .sort-kind .ensures) (c .before .before .before .before .before .before .before .before .before .before .before .before .before .write-record .ensures) (c .before .before .before .before .before .before .before .before .before .before .before .before .before .before .before .before .before .before .before .before .before .before .before .before .before .args .name) (c .before .before .before .before .before .before .before .before .before .with-variable .ensures .0 .0) (c .before .before .before .before .before .before .before .before .before .with-variable .ensures .0 .1) (c .before .before .before .before .before .before .before .before .before .with-variable .ensures .1) (found (c .before .before .before .before .before .check-with-env2 .last .1 .1 .1 .1 .1 .0) _ (body (c .before .before .before .before .before .before .before .before .before) q) (c .before .before .before .before .before .check-with-env2 .ensures) (c .before .b .given .1))

@@ -60,4 +60,4 @@ module _ (t : ℕ) where
   unary-same-length-2 c = search needs
 
   pub unary-returns-2 : unary-lts.Need-returns-2 (unary-claims t) (unary-at t) unary.Post
-  unary-returns-2 c = λ k q. unary-done (c .before .before .before .before .before .before .before .before .before .args .place) q (found₁ (c) q) k
+  unary-returns-2 c = λ k q. unary-done (c .before .before .before .before .before .before .before .before .before .args .place) q (found₁ c q) k
