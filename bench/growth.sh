@@ -1,5 +1,5 @@
 #!/bin/sh
-# Instructions of one netkat_desugar and one netkat_check on terms of growing size, counted by valgrind's callgrind: they repeat.
+# Instructions of one call of each operation on terms of growing size, counted by valgrind's callgrind: they repeat.
 # Needs what bench/run.sh needs, and valgrind.
 here=$(dirname "$0")/../oracle
 . "$here/prepare.sh"
@@ -14,14 +14,19 @@ instructions() {
         sed -n 's/.*Collected : *\([0-9]*\).*/\1/p'
 }
 
-echo "| policy | term bytes | core bytes | drawn | desugar | for each drawn node | check | for each term byte |"
-echo "|---|---|---|---|---|---|---|---|"
+# each FUNCTION COUNT FILE: the same, for each of COUNT bytes or nodes
+each() {
+    instructions "$1" "$3" | awk -v count="$2" '{ printf "%.1f", $1 / count }'
+}
+
+echo "| policy | term bytes | core bytes | drawn | desugar | for each drawn node | check, for each term byte | test fragment | field count | substitute |"
+echo "|---|---|---|---|---|---|---|---|---|---|"
 for family in access_list first_match tenants wide_test; do
     for file in $(ls "$terms" | grep "^$family-" | sort -t- -k2 -n); do
-        set -- $("$oracle" once "$terms/$file")
-        desugar=$(instructions netkat_desugar "$terms/$file")
-        check=$(instructions netkat_check "$terms/$file")
-        echo "${file%.bin} $1 $2 $3 $desugar $check" | awk '{
-            printf "| %s | %d | %d | %d | %d | %.1f | %d | %.1f |\n", $1, $2, $3, $4, $5, $5 / $4, $6, $6 / $2 }'
+        term=$terms/$file
+        set -- $("$oracle" once "$term")
+        echo "| ${file%.bin} | $1 | $2 | $3 | $(instructions netkat_desugar "$term") | $(each netkat_desugar "$3" "$term") |" \
+            "$(each netkat_check "$1" "$term") | $(each netkat_is_test_fragment "$1" "$term") | $(each netkat_num_fields "$1" "$term") |" \
+            "$(each netkat_substitute "$1" "$term") |"
     done
 done

@@ -160,7 +160,8 @@ pub fn terms(folder: &str) -> bool {
     true
 }
 
-/// One call of the port, for a tool that counts its instructions: prints the term's bytes, the core's bytes and the drawn total.
+/// One call of each operation of the port, for a tool that counts instructions: prints the term's bytes, the core's bytes and the drawn
+/// total. Substitute replaces a variable that no term here has.
 pub fn once(path: &str) -> bool {
     let term = std::fs::read(path).unwrap_or_else(|e| panic!("{path}: {e}"));
     let mut work = vec![0; work_needed(ALLOWANCE) as usize];
@@ -169,5 +170,6 @@ pub fn once(path: &str) -> bool {
         Ok((length, drawn)) => println!("{} {length} {drawn}", term.len()),
         Err((number, place)) => println!("{path}: refused by {number} at {place}"),
     }
-    port::check(&term).is_ok()
+    let others = [port::check(&term).is_ok(), port::fragment(&term).is_ok(), port::fields(&term).is_ok()];
+    others.iter().all(|&good| good) && port::substitute(&term, u16::MAX, &[1, 1], term.len() as u64).is_ok()
 }
