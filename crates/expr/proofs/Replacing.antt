@@ -26,7 +26,7 @@ use Rattle.expr.proofs.Arities.{arity-is}
 abbrev pub ofName : Expr → ℕ → Name → Bool
 ofName e k x = named (own e .kind) (own e .name) k x
 
--- where the variable is free: in the term itself, in its first child, in the others
+-- where the variable is replaced: in the term itself, in its first child, in the others
 abbrev pub freeVar : Bool → Name → Expr → Bool
 freeVar live x e = live && ofName e 20 x
 

@@ -25,7 +25,7 @@ isTestFragment (Ranged w u) = isTestUse u
 abbrev pub fragmentBytes : List ℕ → Answer Bool
 fragmentBytes bs = mapAnswer isTestFragment (decode bs)
 
--- `Expr::num_fields`: one more than the highest field
+-- `Expr::num_fields`: the greatest of field + 1 of an Assign or Test and the end of a direct range or of a LetBitRange; 0 where there is none
 abbrev pub atomFields : Atom → ℕ
 atomFields Zero = 0
 atomFields One = 0
@@ -62,7 +62,7 @@ numFields (Ranged (Alias x) u) at = ok 0
 abbrev pub fieldsBytes : List ℕ → Answer ℕ
 fieldsBytes bs = andThen (decode bs) λ e. numFields e 0
 
--- `Expr::substitute`: a Let or a LetBitRange of the name keeps its body
+-- `Expr::substitute`: each occurrence of the variable that does not lie in the body of a Let or LetBitRange of that name
 abbrev pub substitute : Name → Expr → Expr → Expr
 substitute x r (Plain a) = Plain a
 substitute x r (Unary o e) = Unary o (substitute x r e)

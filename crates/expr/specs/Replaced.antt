@@ -47,7 +47,7 @@ FitAll (e ∷ es) = Fits e × FitAll es
 abbrev pub named : ℕ → ℕ → ℕ → ℕ → Bool
 named k y of x = eqb k of && eqb y x
 
--- a term where the variable x is free, and where it is not
+-- a term in which the variable x is replaced, and one that lies in the body of a Let or LetBitRange of that name and stays as it is
 abbrev pub swap : Name → Expr → Bool → Expr → Expr
 swap x r live e = cond live (substitute x r e) e
 

@@ -229,7 +229,7 @@ fieldsAnswer (fields.Refused r p) = refuse r p
 abbrev pub FieldsOf : List ℕ → FieldCount → Type 0
 FieldsOf s r = (e : Expr) → decode s ≡ ok e → fieldsAnswer r ≡ numFields e 0
 
--- the fields that a record needs by itself, or none where these are beyond 32 bits
+-- what a record gives to the field count by itself, or none where field + 1 is beyond 32 bits
 abbrev pub ownFields : ℕ → ℕ → ℕ → Option ℕ
 ownFields k s e =
     cond (leb 5 k && leb k 6) (cond (ltb (s + 1) (2 ^ 32)) (some (s + 1)) none)

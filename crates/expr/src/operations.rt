@@ -15,7 +15,7 @@ pub enum FieldCount {
     Refused(u8, usize),
 }
 
-// The fields that a record needs by itself.
+// What a record gives to the field count by itself, or that field + 1 is beyond 32 bits.
 pub enum OwnFields {
     Fields(u32),
     Over,
@@ -60,7 +60,8 @@ pub fn is_test_fragment(term: &[u8]) -> Fragment
     }
 }
 
-// The fields that a record needs by itself, given its kind, its start or field, and its end.
+// What a record gives to the field count by itself, by its kind, its start or field, and its end: field + 1 of an Assign or Test, the end of
+// a direct range or of a LetBitRange, and else 0.
 fn own_fields(kind: u8, start: u32, end: u32) -> OwnFields
     ensures { λ r. ⌜ ownAnswer r ≡ ownFields kind start end ⌝ }
 {
@@ -102,7 +103,7 @@ fn count_fields(term: &[u8]) -> FieldCount
     FieldCount::Count(count)
 }
 
-// How many fields a term needs.
+// The field count of a term: the greatest of what its records give, 25 at the first Assign or Test of field 4,294,967,295.
 pub fn num_fields(term: &[u8]) -> FieldCount
     ensures { λ r. ⌜ fieldsAnswer r ≡ fieldsBytes (now (term .entry)) ⌝ }
 {

@@ -1,4 +1,5 @@
-// Substitute: each free occurrence of a variable gives way to a term. A first walk measures the result, a second writes it.
+// Substitute: a variable gives way to a term wherever it does not lie in the body of a Let or LetBitRange of its name. A first walk measures
+// the result, a second writes it.
 ghost use mathlib.Core.Path.{_≡_};
 ghost use mathlib.Core.Bool.{true, not, _&&_};
 ghost use Prim.Native.Nat.{_+_, _≤_, max};
@@ -74,7 +75,8 @@ fn copy(from: &[u8], out: &mut [u8], at: usize, write: bool)
     }
 }
 
-// The term at the front of the bytes, of at most `left` levels: `live` says whether the variable is free in it. The result goes to `to`.
+// The term at the front of the bytes, of at most `left` levels: `live` says that it lies in no body of a Let or LetBitRange of the name, so
+// that the variable is replaced in it. The result goes to `to`.
 // A record can always be read, for the bytes are of good form.
 fn walk(s: &[u8], left: usize, live: bool, job: Job, by: &[u8], out: &mut [u8], to: usize) -> Went
     requires { ⌜ Ready (now s) left live job (now by) (now out) to ⌝ }
@@ -115,7 +117,8 @@ fn walk(s: &[u8], left: usize, live: bool, job: Job, by: &[u8], out: &mut [u8], 
     walk_all(s, done, count, left - 1, first, others, job, by, out)
 }
 
-// A term's children, as many as `count`, one behind the other, behind what is done of the term: in the first the variable is free if `first`, in the others if `others`.
+// A term's children, as many as `count`, one behind the other, behind what is done of the term: in the first the variable is replaced if
+// `first`, in the others if `others`.
 fn walk_all(
     s: &[u8],
     done: Went,
@@ -185,7 +188,7 @@ fn replace(term: &[u8], name: u16, by: &[u8], out: &mut [u8]) -> Substituted
     Substituted::Length(w.to)
 }
 
-// The term with each free occurrence of the variable `name` replaced.
+// The term with each occurrence of the variable `name` replaced that does not lie in the body of a Let or LetBitRange of that name.
 pub fn substitute(term: &[u8], name: u16, replacement: &[u8], out: &mut [u8]) -> Substituted
     ensures { λ r. ⌜ SubstitutedAs (now (term .entry)) name (now (replacement .entry)) (now (out .entry)) (now (out .exit)) r ⌝ }
 {

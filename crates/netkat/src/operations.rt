@@ -36,7 +36,8 @@ pub extern "C" fn netkat_is_test_fragment(term: &[u8]) -> Answer
     }
 }
 
-// How many fields a term needs: the first value.
+// The field count of a term, as the first value: the greatest of field + 1 of an Assign or Test and the end of a direct range or of a
+// LetBitRange; 0 where there is none.
 #[no_mangle]
 pub extern "C" fn netkat_num_fields(term: &[u8]) -> Answer
     ensures { λ r. ⌜ r ≡ hosted (mapAnswer (λ n. (n, 0)) (fieldsBytes (now (term .entry)))) ⌝ }
@@ -47,7 +48,8 @@ pub extern "C" fn netkat_num_fields(term: &[u8]) -> Answer
     }
 }
 
-// The term with each free occurrence of the variable `name` replaced, to the front of the answer buffer: the first value is its length.
+// The term with each occurrence of the variable `name` replaced that does not lie in the body of a Let or LetBitRange of that name, to the
+// front of the answer buffer: the first value is its length.
 #[no_mangle]
 pub extern "C" fn netkat_substitute(
     term: &[u8],

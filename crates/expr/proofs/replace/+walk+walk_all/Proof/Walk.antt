@@ -36,7 +36,7 @@ module _ (t : ℕ) where
   var-at : (c : Seen) (q : Q (start c)) {r : Bool} → c .both .result ≡ r → freeVar (start c .args .live) (start c .args .job .name) (q .term) ≡ r
   var-at c q e = is-var q (head-at c q) (c .before .is-named .ensures) (c .both .ensures) e
 
-  -- it is known how many children there are, and where the variable is free in them
+  -- it is known how many children there are, and in which of them the variable is replaced
   abbrev Counted : Type 0
   Counted = walk-lts.After-arity (walk-claims t) (walk-at t) walk.Post
 
