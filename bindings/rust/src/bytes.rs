@@ -1,6 +1,7 @@
 //! The operations on terms that are bytes already.
 //!
-//! Each answers as the function of the same name in `include/netkat.h`; buffers and work memory are allocated here.
+//! Each answers as the function of `include/netkat.h` that has its name behind `netkat_`; buffers and work memory are allocated
+//! here.
 //!
 //! ```
 //! use netkat::bytes;
@@ -13,7 +14,8 @@
 
 use crate::{ffi, Desugarer, Refusal};
 
-/// No term of good form is longer: 4,096 records, the longest with a map, a kind, two numbers, a pattern and two literals.
+/// No term of good form is longer: 4,096 records, and none longer than one with a map, a kind, start and end, a pattern and two
+/// literals of 128 bits.
 const MAX_TERM_BYTES: usize = 4_096 * (1 + 1 + 4 + 4 + 1 + 17 + 17);
 
 /// Form, then the rules 11 to 23. True if the term is a test.
@@ -26,7 +28,8 @@ pub fn desugar(term: &[u8]) -> Result<Vec<u8>, Refusal> {
     Desugarer::new().desugar_bytes(term).map(|desugared| desugared.core.to_vec())
 }
 
-/// The bytes of the term with each free occurrence of the variable replaced. A fault of the replacement's form is 31 to 38.
+/// The bytes of the term with each occurrence of the variable replaced that does not lie in the body of a Let or LetBitRange of
+/// that name. A fault of the replacement's form is 31 to 38.
 ///
 /// ```
 /// use netkat::bytes;
@@ -36,7 +39,7 @@ pub fn desugar(term: &[u8]) -> Result<Vec<u8>, Refusal> {
 /// assert_eq!(bytes::substitute(&star_of_variable_1, 1, &dup).unwrap(), [1, 14, 1, 3]);
 /// ```
 pub fn substitute(term: &[u8], name: u16, replacement: &[u8]) -> Result<Vec<u8>, Refusal> {
-    // A variable takes two bytes or more, so this is enough for every occurrence.
+    // A variable has two bytes or more, so there are not more of them than this.
     let occurrences = term.len() / 2;
     let enough = occurrences.saturating_mul(replacement.len()).saturating_add(term.len());
     let mut out = vec![0; enough.min(MAX_TERM_BYTES)];
@@ -50,7 +53,8 @@ pub fn is_test_fragment(term: &[u8]) -> Result<bool, Refusal> {
     ffi::is_test_fragment(term).map(|(first, _)| first == 1)
 }
 
-/// One more than the highest field of the term. 25 for field 4,294,967,295.
+/// The field count: the greatest of field + 1 of an Assign or Test and the end of a direct range or of a LetBitRange; 0 where
+/// there is none. 25 for an Assign or Test of field 4,294,967,295.
 pub fn num_fields(term: &[u8]) -> Result<u32, Refusal> {
     ffi::num_fields(term).map(|(first, _)| first)
 }

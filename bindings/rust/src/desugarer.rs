@@ -46,7 +46,7 @@ pub struct Desugarer {
 pub struct Desugared {
     /// The core.
     pub core: Core,
-    /// How many nodes were drawn on the allowance.
+    /// The drawn total: how many core nodes all steps together made. The core has at most so many.
     pub drawn: u32,
 }
 
@@ -55,7 +55,7 @@ pub struct Desugared {
 pub struct DesugaredBytes<'a> {
     /// The core's bytes, in the memory of the [`Desugarer`].
     pub core: &'a [u8],
-    /// How many nodes were drawn on the allowance.
+    /// The drawn total: how many core nodes all steps together made. The core has at most so many.
     pub drawn: u32,
 }
 
@@ -84,7 +84,7 @@ impl Desugarer {
         self.allowance
     }
 
-    /// The core of a term. Refused by 9, by 5 to 7 if the term is beyond the limits, by a rule (11 to 23), or by 24.
+    /// The core of a term. Refused by 5 to 7 if the term is beyond the limits, by 9, by a rule (11 to 23), or by 24.
     pub fn desugar(&mut self, term: &Expr) -> Result<Desugared, Refusal> {
         let DesugaredBytes { core, drawn } = self.desugar_bytes(&term.to_bytes()?)?;
         let core = Core::from_bytes(core).expect("the library writes cores of good form");

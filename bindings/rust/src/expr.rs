@@ -51,7 +51,8 @@ pub type Exp = Box<Expr>;
 /// are half open, literals least significant bit first.
 ///
 /// A tree can be built at any size and depth; the operations refuse one of more than 4,096 nodes or 256 levels. As with [`Core`],
-/// nothing recurses, and children cannot be moved out by a pattern.
+/// nothing in this crate recurses over it, and children cannot be moved out by a pattern. The library recurses over its bytes,
+/// within those levels.
 #[derive(Default)]
 pub enum Expr {
     /// `0`
@@ -349,7 +350,8 @@ impl Expr {
         desugar(self)
     }
 
-    /// The term with each free occurrence of the variable replaced.
+    /// The term with each occurrence of the variable replaced that does not lie in the body of a Let or LetBitRange of that name:
+    /// as in the original, an alias of the name keeps its body too.
     ///
     /// ```
     /// use netkat::Expr;
@@ -357,6 +359,9 @@ impl Expr {
     /// let term = Expr::let_in(1, Expr::var(1), Expr::var(1));
     /// let replaced = term.substitute(1, &Expr::Dup).unwrap();
     /// assert_eq!(replaced, Expr::let_in(1, Expr::dup(), Expr::var(1)));
+    ///
+    /// let hidden = Expr::let_bit_range(1, 0, 4, Expr::var(1));
+    /// assert_eq!(hidden.substitute(1, &Expr::Dup).unwrap(), hidden);
     /// ```
     pub fn substitute(&self, name: u16, replacement: &Expr) -> Result<Exp, Refusal> {
         let term = self.to_bytes()?;
@@ -377,12 +382,15 @@ impl Expr {
         bytes::is_test_fragment(&self.to_bytes()?)
     }
 
-    /// How many fields the term needs: one more than the highest. 25 for field 4,294,967,295, where the original panics.
+    /// The field count: the greatest of field + 1 of an Assign or Test and the end of a direct range or of a LetBitRange; 0 where
+    /// there is none. 25 for an Assign or Test of field 4,294,967,295, where the original panics.
     ///
     /// ```
     /// use netkat::Expr;
     ///
     /// assert_eq!(Expr::test(7, true).num_fields(), Ok(8));
+    /// assert_eq!(Expr::bit_range_assign(3, 3, vec![]).num_fields(), Ok(3));
+    /// assert_eq!(Expr::dup().num_fields(), Ok(0));
     /// assert_eq!(Expr::test(u32::MAX, true).num_fields().unwrap_err().number, 25);
     /// ```
     pub fn num_fields(&self) -> Result<u32, Refusal> {

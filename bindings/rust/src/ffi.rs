@@ -1,7 +1,7 @@
 //! The six functions of libnetkat.a as safe functions on slices. The only file with unsafe code.
 //!
-//! The declarations follow include/netkat.h. A Rust slice meets what that file asks of its pointers: it is never null, and the
-//! borrow rules keep a slice that is written apart from all others.
+//! The declarations follow include/netkat.h. A Rust slice meets what that file asks of a pointer and its length: the pointer is
+//! never null, the elements are there, and the borrow rules keep a slice that is written apart from all others.
 #![allow(unsafe_code)]
 
 use crate::Refusal;
@@ -80,7 +80,7 @@ pub(crate) fn is_test_fragment(term: &[u8]) -> Values {
     unsafe { netkat_is_test_fragment(term.as_ptr(), term.len()) }.values()
 }
 
-/// First value: one more than the highest field.
+/// First value: the field count, as include/netkat.h says it.
 pub(crate) fn num_fields(term: &[u8]) -> Values {
     // SAFETY: the pointer and the length are those of a slice.
     unsafe { netkat_num_fields(term.as_ptr(), term.len()) }.values()

@@ -1,10 +1,11 @@
 use std::error::Error;
 use std::fmt;
 
-/// Why there is no answer: a number of the requirement, and the record that it speaks of.
+/// Why there is no answer: a number of the requirement, and a place.
 ///
-/// Numbers are 1 to 28 and 31 to 38. The place is the index of a record in the term, from 0 in written order. It is the same index
-/// as in [`Expr::nodes`](crate::Expr::nodes), so that the part of the policy can be shown:
+/// Numbers are 1 to 28 and 31 to 38. The place of 1 to 7 and of 11 to 25 is the index of a record in the term, from 0 in written
+/// order; that of 8 is the number of records; that of 31 to 38 counts in the replacement; that of 9, 10 and 26 to 28 is 0. A
+/// record has the same index in [`Expr::nodes`](crate::Expr::nodes), so that the part of the policy can be shown:
 ///
 /// ```
 /// use netkat::{Expr, RefusalKind};
@@ -19,16 +20,16 @@ use std::fmt;
 /// ```
 #[derive(Clone, Copy, Debug, PartialEq, Eq, Hash)]
 pub struct Refusal {
-    /// The number of the rule that is broken.
+    /// The refusal's number; [`Refusal::kind`] says what it is about.
     pub number: u32,
-    /// The record's index, from 0 in written order, or 0 for a refusal that speaks of no record.
+    /// The record's index, from 0 in written order; the number of records for bytes left over; 0 where no record is meant.
     pub place: u32,
 }
 
 /// What a [`Refusal`] is about: one case for each number.
 #[derive(Clone, Copy, Debug, PartialEq, Eq, Hash)]
 pub enum RefusalKind {
-    /// 1 to 8: the term is not well formed.
+    /// 1 to 8: the term is not of good form.
     Form(FormFault),
     /// 9: the allowance is not 1 to 65,535.
     Allowance,
@@ -38,13 +39,13 @@ pub enum RefusalKind {
     UnknownAlias,
     /// 12: an unbound variable.
     UnboundVariable,
-    /// 13: an alias used as a variable.
+    /// 13: a variable of a name that only an alias has.
     AliasAsVariable,
     /// 14: a range that ends below its start.
     RangeEndBelowStart,
     /// 15: a literal that is longer than the alias, or an Exact pattern that is longer than its field.
     LiteralTooLong,
-    /// 16: a literal that does not have exactly the width of its range.
+    /// 16: a literal that does not have exactly the width of its direct range.
     LiteralWidth,
     /// 17: a CIDR prefix above the width.
     CidrPrefix,
@@ -60,9 +61,9 @@ pub enum RefusalKind {
     NegatedNonTest,
     /// 23: the condition of an if is not a test.
     ConditionNotTest,
-    /// 24: the core needs more nodes than the allowance.
+    /// 24: the steps of desugaring make more core nodes than the allowance. The core itself can be smaller.
     AllowanceSpent,
-    /// 25: field 4,294,967,295, which no field count can include.
+    /// 25: an Assign or Test of field 4,294,967,295, which no field count can include.
     FieldCount,
     /// 26: the answer buffer is too short. The functions of this crate always lend a buffer that is long enough.
     BufferTooShort,
@@ -70,7 +71,7 @@ pub enum RefusalKind {
     ResultTooLarge,
     /// 28: a subrange that is not inside its alias.
     SubrangeOutside,
-    /// 31 to 38: the replacement of a substitution is not well formed. The place is a record of the replacement.
+    /// 31 to 38: the replacement of a substitution is not of good form. The place counts in the replacement.
     Replacement(FormFault),
     /// Any other number. The library gives none.
     Unknown,
@@ -184,7 +185,7 @@ impl RefusalKind {
             Self::IpRangeOrder => "the address range starts above its end",
             Self::NegatedNonTest => "only a test can be negated, and this operand is not a test",
             Self::ConditionNotTest => "the condition of an if must be a test",
-            Self::AllowanceSpent => "the core needs more nodes than the allowance, which is spent here",
+            Self::AllowanceSpent => "desugaring makes more core nodes than the allowance, which is spent here",
             Self::FieldCount => "field 4,294,967,295 is used, and the count of fields would be too large a number",
             Self::BufferTooShort => "the answer does not fit in its buffer",
             Self::ResultTooLarge => "with the replacement, the policy has more than 4,096 expressions or 256 levels",
@@ -193,7 +194,7 @@ impl RefusalKind {
         }
     }
 
-    /// Whether the refusal's place is a record. That of left over bytes is the record count.
+    /// Whether the refusal's place is a record's. That of bytes left over is the number of records.
     fn has_place(self) -> bool {
         !matches!(
             self,
