@@ -5,8 +5,8 @@
  * nothing and keeps no pointer and no state. So it may be called from several threads at once, as long as no call is lent a `work` or
  * `out` that another call has, and nobody writes the bytes that a call reads.
  *
- * What the caller owes: no pointer is null, even of length 0; the elements are there, as many as the length says; `work` and `out`
- * overlap neither each other nor another slice of the same call. `term` and `replacement` may overlap.
+ * What the caller owes: no pointer is null, even of length 0; the elements are there, as many as the length says, and aligned; `work`
+ * and `out` overlap neither each other nor another slice of the same call. `term` and `replacement` may overlap.
  *
  * A term is walked with recursion, at most 256 levels deep: a stack of 512 KiB is enough (tested).
  *

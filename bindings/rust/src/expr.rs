@@ -313,7 +313,8 @@ impl Expr {
         tree::encode(self)
     }
 
-    /// All nodes in prefix order, the order of the records: the node of a refusal's place is `nodes().nth(place)`.
+    /// All nodes in prefix order, the order of the records: where a refusal's place is a record of the term, its node is
+    /// `nodes().nth(place)`.
     ///
     /// ```
     /// use netkat::Expr;
