@@ -1,5 +1,5 @@
 -- What a limit changes: with enough of an allowance nothing, and with less the answer is 24 at the first draw beyond it.
-use mathlib.Core.Path.{_≡_, refl, sym, ap, _∙_}
+use mathlib.Core.Path.{_≡_, refl, sym, ap, subst, _∙_}
 use mathlib.Core.Bool.{Bool, true, false, cond}
 use mathlib.Core.List.{List, [], _∷_, _++_, append-assoc, append-nil}
 use Prim.Native.Nat.{ℕ, _+_, _-_, _≤_, _<_}
@@ -11,18 +11,14 @@ use Rattle.literals.proofs.Logic.{false-of, leb-is}
 use Rattle.expr.specs.Answers.{Answer, andThen, mapAnswer, need, ok, refuse}
 use Rattle.expr.specs.Terms.{Binary, Core, Expr, IfThenElse, Let, LetBitRange, Plain, Ranged, Sequence, TestNegation, Unary, Union, Var, leaf, one, records, size, two}
 use Rattle.desugar.specs.Bindings.{Env, findRange, lookupAlias, lookupVariable, range, variable}
+use Rattle.desugar.specs.Claims.{Limit}
 use Rattle.desugar.specs.Desugar.{desugar}
 use Rattle.desugar.specs.Leaves.{useCore}
-use Rattle.desugar.specs.Meter.{Draws, Meter, _>>=_, drawing, drawn, left, lift, spent}
+use Rattle.desugar.specs.Meter.{Draws, Meter, _>>=_, drawing, drawn, left, lift, overdrawn, spent}
 use Rattle.desugar.specs.Negation.{isTest, join, joinDraw, negate}
 use Rattle.desugar.specs.Rules.{boundVariable, knownRange, rangeRule}
 
 -- ## Lists of draws, each with its place
-
--- the place of the first draw that goes beyond an allowance n
-abbrev pub overdrawn : ℕ → List (ℕ × ℕ) → ℕ
-overdrawn n [] = 0
-overdrawn n (d ∷ ds) = cond (leb (d .0) n) (overdrawn (n - d .0) ds) (d .1)
 
 pub drawn-append : (ds es : List (ℕ × ℕ)) → drawn (ds ++ es) ≡ drawn ds + drawn es
 drawn-append [] es = omega arith
@@ -151,48 +147,52 @@ same-left a b e = cc
 apart : {r at : ℕ} {x : Core × Meter} → _≡_ {A = Answer (Core × Meter)} (refuse r at) (ok x) → ⊥
 apart e = let z : _≡_ {A = ℕ} 0 1 = cc in absurd (omega arith)
 
--- With an allowance of at least the sum of ds the answer is the one without limit, and the sum is taken from the allowance; with less it
--- is 24, at the place of the first draw that goes beyond it. Where the walk has a result, ds are its draws in walking order (total);
--- where a rule fails, ds fix what allowances meet the rule and where the others are refused
-pub record Limit (env : Env Core) (e : Expr) (at : ℕ) (ds : List (ℕ × ℕ)) : Type 0 where
-  pub total : (k t : List (ℕ × ℕ)) (c : Core) → desugar env e at (spent k) ≡ ok (c, spent t) → t ≡ k ++ ds
-  pub taken : (n m : ℕ) (c : Core) → desugar env e at (left n) ≡ ok (c, left m) → n ≡ m + drawn ds
-  pub enough : (n : ℕ) (k : List (ℕ × ℕ)) → drawn ds ≤ n
-      → mapAnswer (λ r. r .0) (desugar env e at (left n)) ≡ mapAnswer (λ r. r .0) (desugar env e at (spent k))
-  pub short : (n : ℕ) → n < drawn ds → desugar env e at (left n) ≡ refuse 24 (overdrawn n ds)
+-- the draws of a step
+abbrev pub drawsOf : {A : Type 0} {m : Draws A} → Costs m → List (ℕ × ℕ)
+drawsOf (gives a ds s g l) = ds
+drawsOf (stops r p ds s g l) = ds
 
-pub limit : (env : Env Core) (e : Expr) (at : ℕ) → (ds : List (ℕ × ℕ)) × Limit env e at ds
-limit env e at = go (desugar-costs env e at)
-  where
-    first : Answer (Core × Meter) → Answer Core
-    first x = mapAnswer (λ r. r .0) x
+module _ (env : Env Core) (e : Expr) (at : ℕ) where
+  abbrev first : Answer (Core × Meter) → Answer Core
+  first x = mapAnswer (λ r. r .0) x
 
-    go : Costs (desugar env e at) → (ds : List (ℕ × ℕ)) × Limit env e at ds
-    go (gives a ds s g l) = (
-      ds,
+  pub limit-of : (k : Costs (desugar env e at)) → Limit env e at (drawsOf k)
+  limit-of (gives a ds s g l) =
       record {
         total = λ k t c h. same-spent t (k ++ ds) (ok-pair (sym h ∙ s k) .1);
         taken = λ n m c h. pick n m c h (decLt n (drawn ds));
         enough = λ n k p. ap first (g n p) ∙ sym (ap first (s k));
         short = l;
-      },
-    )
-      where
-        pick : (n m : ℕ) (c : Core) → desugar env e at (left n) ≡ ok (c, left m) → Dec (n < drawn ds) → n ≡ m + drawn ds
-        pick n m c h (yes q) = absurd (apart (sym (l n q) ∙ h))
-        pick n m c h (no q) =
-            let z : m ≡ n - drawn ds = same-left m (n - drawn ds) (ok-pair (sym h ∙ g n (omega arith)) .1) in
-            omega arith
-    go (stops r p ds s g l) = (
-      ds,
+      }
+    where
+      pick : (n m : ℕ) (c : Core) → desugar env e at (left n) ≡ ok (c, left m) → Dec (n < drawn ds) → n ≡ m + drawn ds
+      pick n m c h (yes q) = absurd (apart (sym (l n q) ∙ h))
+      pick n m c h (no q) =
+          let z : m ≡ n - drawn ds = same-left m (n - drawn ds) (ok-pair (sym h ∙ g n (omega arith)) .1) in
+          omega arith
+  limit-of (stops r p ds s g l) =
       record {
         total = λ k t c h. absurd (apart (sym (s k) ∙ h));
         taken = λ n m c h. absurd (pick n m c h (decLt n (drawn ds)));
         enough = λ n k q. ap first (g n q) ∙ sym (ap first (s k));
         short = l;
-      },
-    )
-      where
-        pick : (n m : ℕ) (c : Core) → desugar env e at (left n) ≡ ok (c, left m) → Dec (n < drawn ds) → ⊥
-        pick n m c h (yes q) = apart (sym (l n q) ∙ h)
-        pick n m c h (no q) = apart (sym (g n (omega arith)) ∙ h)
+      }
+    where
+      pick : (n m : ℕ) (c : Core) → desugar env e at (left n) ≡ ok (c, left m) → Dec (n < drawn ds) → ⊥
+      pick n m c h (yes q) = apart (sym (l n q) ∙ h)
+      pick n m c h (no q) = apart (sym (g n (omega arith)) ∙ h)
+
+  pub limit : (ds : List (ℕ × ℕ)) × Limit env e at ds
+  limit = (drawsOf (desugar-costs env e at), limit-of (desugar-costs env e at))
+
+-- with enough of an allowance, a core that is made without limit is made, and its draws are taken
+pub limited : (env : Env Core) (e : Expr) (at : ℕ) (c : Core) (ds : List (ℕ × ℕ)) → desugar env e at (spent []) ≡ ok (c, spent ds)
+    → (n : ℕ) → drawn ds ≤ n → desugar env e at (left n) ≡ ok (c, left (n - drawn ds))
+limited env e at c ds h n p = go (desugar-costs env e at)
+  where
+    go : Costs (desugar env e at) → desugar env e at (left n) ≡ ok (c, left (n - drawn ds))
+    go (gives a es s g l) =
+        let k = ok-pair (sym h ∙ s []) in
+        let same : ds ≡ es = same-spent ds es (k .1) in
+        rw (k .0, same) (g n (subst (λ d. drawn d ≤ n) same p))
+    go (stops r q es s g l) = absurd (apart (sym (s []) ∙ h))

@@ -14,6 +14,7 @@ use Rattle.literals.specs.Patterns.{Cidr, Exact, HoldsOf, IpRange, Pattern, Wil
 use Rattle.literals.proofs.Bits.{bit-at-bits, bit-at-value, length-bits, length-pad, value-below, value-of-bits, value-of-pad}
 use Rattle.expr.specs.Answers.{ok}
 use Rattle.expr.specs.Terms.{Assigns, Core, Matches, Tests, Use, Where}
+use Rattle.desugar.specs.Claims.{Forms, Outside, Sets, TestsFor}
 use Rattle.desugar.specs.Leaves.{between, useCore}
 use Rattle.desugar.specs.Negation.{isTest}
 use Rattle.desugar.specs.Packets.{Others, Packet, coreMeans, fieldBits, fieldValue, useMeans, withRange}
@@ -75,10 +76,6 @@ value-set p s n v h = ap valueOf same ∙ value-of-bits n v h
         sym (bit-at-value i (fieldBits q s n)) ∙ field-bit q n s i l ∙ inside p s n v (s + i) (omega arith) (omega arith)
         ∙ ap (λ j. bitAt j v) e ∙ sym (bit-at-bits n v i l))
 
--- outside the n fields from s
-abbrev pub Outside : ℕ → ℕ → ℕ → Type 0
-Outside s n g = (g < s) ⊎ (s + n ≤ g)
-
 outside-kept : (p : Packet) (s n v g : ℕ) → Outside s n g → withRange p s n v g ≡ p g
 outside-kept p s n v g (inl h) = before p s n v g h
 outside-kept p s n v g (inr h) = behind p s n v g h
@@ -100,18 +97,6 @@ set-is p q s n v h = (
 
 -- ## The forms
 
--- a test of the range from s up to e, where its rules hold: it relates a packet to itself alone, where P holds of the range's
--- value; and of the values that the range can have, it holds of exactly those
-pub record TestsFor (others : Others) (c : Core) (s e : ℕ) (P : ℕ → Type 0) : Type 0 where
-  pub packets : (p q : Packet) → coreMeans others c p q ↔ ((p ≡ q) × P (fieldValue p s (e - s)))
-  pub values : (p : Packet) (v : ℕ) → v < 2 ^ (e - s)
-      → coreMeans others c (withRange p s (e - s) v) (withRange p s (e - s) v) ↔ P v
-
--- an assignment of the range from s up to e, where its rules hold: the range is given the value, and every other field stays
-pub record Sets (others : Others) (c : Core) (s e v : ℕ) : Type 0 where
-  pub packets : (p q : Packet) → coreMeans others c p q ↔ (q ≡ withRange p s (e - s) v)
-  pub values : (p q : Packet) → coreMeans others c p q ↔ ((fieldValue q s (e - s) ≡ v) × ((g : ℕ) → Outside s (e - s) g → q g ≡ p g))
-
 tests-for : (others : Others) (c : Core) (s e : ℕ) (P : ℕ → Type 0)
     → ((p q : Packet) → coreMeans others c p q ↔ ((p ≡ q) × P (fieldValue p s (e - s)))) → TestsFor others c s e P
 tests-for others c s e P h =
@@ -131,13 +116,13 @@ module _ (others : Others) (w : Where) (s e at : ℕ) where
   suits : (u : Use) → Ruled u → RangeSuits w u (some (s, e))
   suits u h = decided (range-decides w u (s, e) at) h
 
-  pub match-form : (m : Pattern) → Ruled (Matches m) → TestsFor others (useCore (Matches m) s (e - s)) s e (HoldsOf m (e - s))
+  match-form : (m : Pattern) → Ruled (Matches m) → TestsFor others (useCore (Matches m) s (e - s)) s e (HoldsOf m (e - s))
   match-form m h = tests-for others (useCore (Matches m) s (e - s)) s e (HoldsOf m (e - s)) (use-means others w (Matches m) (s, e) (suits (Matches m) h))
 
-  pub test-form : (a : Bits) → Ruled (Tests a) → TestsFor others (useCore (Tests a) s (e - s)) s e (λ v. v ≡ valueOf a)
+  test-form : (a : Bits) → Ruled (Tests a) → TestsFor others (useCore (Tests a) s (e - s)) s e (λ v. v ≡ valueOf a)
   test-form a h = tests-for others (useCore (Tests a) s (e - s)) s e (λ v. v ≡ valueOf a) (use-means others w (Tests a) (s, e) (suits (Tests a) h))
 
-  pub assign-form : (a : Bits) → Ruled (Assigns a) → Sets others (useCore (Assigns a) s (e - s)) s e (valueOf a)
+  assign-form : (a : Bits) → Ruled (Assigns a) → Sets others (useCore (Assigns a) s (e - s)) s e (valueOf a)
   assign-form a h =
       let k : length a ≤ e - s = literal-short w a (e - s) (suits (Assigns a) h .1) in
       let below : valueOf a < 2 ^ (e - s) = lt-of-lt-of-le (value-below a) (pow-le-pow-right (omega arith) k) in
@@ -145,3 +130,15 @@ module _ (others : Others) (w : Where) (s e at : ℕ) where
         packets = use-means others w (Assigns a) (s, e) (suits (Assigns a) h);
         values = λ p q. Iff·trans (use-means others w (Assigns a) (s, e) (suits (Assigns a) h) p q) (set-is p q s (e - s) (valueOf a) below);
       }
+
+-- each form, where the rules on its range hold
+pub each-form : (others : Others) (w : Where) (s e at : ℕ) → Forms others w s e at
+each-form others w s e at =
+    record {
+      test = test-form others w s e at;
+      assign = assign-form others w s e at;
+      exact = λ a. match-form others w s e at (Exact a);
+      cidr = λ a k. match-form others w s e at (Cidr a k);
+      wildcard = λ a m. match-form others w s e at (Wildcard a m);
+      ipRange = λ a b. match-form others w s e at (IpRange a b);
+    }

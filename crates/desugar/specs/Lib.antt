@@ -6,6 +6,8 @@ pub mod Leaves
 pub mod Negation
 pub mod Desugar
 pub mod Packets
+pub mod Claims
+pub mod Probes
 pub mod Memory
 pub mod LeafWords
 pub mod NegationOutcome

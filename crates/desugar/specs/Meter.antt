@@ -31,3 +31,8 @@ drawing n at a (left k) = cond (leb n k) (ok (a, left (k - n))) (refuse 24 at)
 abbrev pub drawn : List (ℕ × ℕ) → ℕ
 drawn [] = 0
 drawn (d ∷ ds) = d .0 + drawn ds
+
+-- "24 a draw beyond the allowance.": the place of the first draw that goes beyond an allowance n
+abbrev pub overdrawn : ℕ → List (ℕ × ℕ) → ℕ
+overdrawn n [] = 0
+overdrawn n (d ∷ ds) = cond (leb (d .0) n) (overdrawn (n - d .0) ds) (d .1)

@@ -38,7 +38,7 @@ then-tt : (x : Answer (Unit {0})) → andThen x (λ _. ok (tt {0})) ≡ x
 then-tt (ok t) = refl
 then-tt (refuse r at) = refl
 
-refusal-of : (s : Bool) {r at : ℕ} (x : Answer (Unit {0})) → andThen x (λ _. ok s) ≡ refuse r at → x ≡ refuse r at
+pub refusal-of : (s : Bool) {r at : ℕ} (x : Answer (Unit {0})) → andThen x (λ _. ok s) ≡ refuse r at → x ≡ refuse r at
 refusal-of s (ok t) e = let z : _≡_ {A = ℕ} 0 1 = cc in absurd (omega arith)
 refusal-of s (refuse q p) e = go q p _ _ e
   where

@@ -9,25 +9,8 @@ use native.Mathlib.Decide.{decLt}
 use lib.ListN.{length, length-append}
 use Rattle.expr.specs.Terms.{Binary, Expr, IfThenElse, Let, LetBitRange, Name, Op1, Op2, Plain, Ranged, TestNegation, Unary, Var, records}
 use Rattle.desugar.specs.Bindings.{range, variable}
+use Rattle.netkat.specs.Claims.{Inside, PointAt, body, condition, definition, elseBranch, first, here, negated, rangeBody, second, thenBranch, unary}
 use Rattle.netkat.specs.Points.{Point, Scope, definitions, point, walk}
-
--- ## Points inside a term
-
--- the subterm e′ with the binders sc′ around it begins at the record at′ of e, which has sc around it and begins at the record at
-pub data Inside (sc′ : Scope) (e′ : Expr) (at′ : ℕ) : Scope → Expr → ℕ → Type 0 where
-  here : Inside sc′ e′ at′ sc′ e′ at′
-  unary : {sc : Scope} {o : Op1} {e : Expr} {at : ℕ} → Inside sc′ e′ at′ sc e (at + 1) → Inside sc′ e′ at′ sc (Unary o e) at
-  first : {sc : Scope} {o : Op2} {a b : Expr} {at : ℕ} → Inside sc′ e′ at′ sc a (at + 1) → Inside sc′ e′ at′ sc (Binary o a b) at
-  second : {sc : Scope} {o : Op2} {a b : Expr} {at : ℕ} → Inside sc′ e′ at′ sc b (at + 1 + records a) → Inside sc′ e′ at′ sc (Binary o a b) at
-  negated : {sc : Scope} {e : Expr} {at : ℕ} → Inside sc′ e′ at′ sc e (at + 1) → Inside sc′ e′ at′ sc (TestNegation e) at
-  condition : {sc : Scope} {c t e : Expr} {at : ℕ} → Inside sc′ e′ at′ sc c (at + 1) → Inside sc′ e′ at′ sc (IfThenElse c t e) at
-  thenBranch : {sc : Scope} {c t e : Expr} {at : ℕ} → Inside sc′ e′ at′ sc t (at + 1 + records c) → Inside sc′ e′ at′ sc (IfThenElse c t e) at
-  elseBranch : {sc : Scope} {c t e : Expr} {at : ℕ} → Inside sc′ e′ at′ sc e (at + 1 + records c + records t) → Inside sc′ e′ at′ sc (IfThenElse c t e) at
-  definition : {sc : Scope} {x : Name} {d b : Expr} {at : ℕ} → Inside sc′ e′ at′ sc d (at + 1) → Inside sc′ e′ at′ sc (Let x d b) at
-  body : {sc : Scope} {x : Name} {d b : Expr} {at : ℕ}
-      → Inside sc′ e′ at′ (variable x (d, at + 1) ∷ sc) b (at + 1 + records d) → Inside sc′ e′ at′ sc (Let x d b) at
-  rangeBody : {sc : Scope} {x : Name} {s t : ℕ} {b : Expr} {at : ℕ}
-      → Inside sc′ e′ at′ (range x s t ∷ sc) b (at + 1) → Inside sc′ e′ at′ sc (LetBitRange x s t b) at
 
 -- ## Every record is a point
 
@@ -45,7 +28,7 @@ walk-length sc (Var x) at = refl
 walk-length sc (Ranged w u) at = refl
 
 -- the node's own point comes last
-own-point : (sc : Scope) (e : Expr) (at : ℕ) → List·Memᴰ (point sc e at) (walk sc e at)
+pub own-point : (sc : Scope) (e : Expr) (at : ℕ) → List·Memᴰ (point sc e at) (walk sc e at)
 own-point sc (Plain a) at = List·Memᴰ·head refl
 own-point sc (Unary o e) at = Memᴰ·append-right (walk sc e (at + 1)) (List·Memᴰ·head refl)
 own-point sc (Binary o a b) at =
@@ -94,10 +77,6 @@ walk-inside sc (LetBitRange x s e b) at p m =
     by-part (walk (range x s e ∷ sc) b (at + 1)) _ m (λ h. rangeBody (walk-inside (range x s e ∷ sc) b (at + 1) p h)) (own-inside p sc (LetBitRange x s e b) at)
 walk-inside sc (Var x) at p m = own-inside p sc (Var x) at m
 walk-inside sc (Ranged w u) at p m = own-inside p sc (Ranged w u) at m
-
--- a point of a list with the place n
-abbrev pub PointAt : List Point → ℕ → Type 0
-PointAt ps n = (p : Point) × List·Memᴰ p ps × (p .place ≡ n)
 
 in-first : (ps qs : List Point) (n m : ℕ) → n ≡ m → PointAt ps n → PointAt (ps ++ qs) m
 in-first ps qs n m e h = (h .0, Memᴰ·append-left qs (h .1), h .2 ∙ e)

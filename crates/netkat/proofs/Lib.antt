@@ -10,6 +10,9 @@ pub mod Rules
 pub mod AtPoint
 pub mod Numbers
 pub mod Whole
+pub mod OneStepKinds
+pub mod Declines
+pub mod Demands
 pub mod Theorems
 pub mod HostBounds
 pub mod HostAnswers

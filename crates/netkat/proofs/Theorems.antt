@@ -1,39 +1,60 @@
--- The theorems on the definitions, in the order in which document 01 asks for them. A reviewer reads the statements here first; each
--- proof is a line that cites the laws beside this file and in the crates below.
+-- The theorems on the definitions: the three demands, then what stands behind them in the order of document 01. A reviewer reads the
+-- statements here first; each proof is a line that cites the laws beside this file and in the crates below. Every definition that a
+-- statement uses stands in specs/.
 use mathlib.Core.Path.{_≡_, refl, subst}
 use mathlib.Core.Logic.{_↔_}
-use mathlib.Core.Bool.{Bool, false}
-use mathlib.Core.List.{List, [], _++_, map, List·Memᴰ}
-use Prim.Native.Nat.{ℕ, _+_, _-_, _≤_, _<_}
+use mathlib.Core.Bool.{Bool, true, false}
+use mathlib.Core.List.{List, [], _∷_, _++_, map, List·Memᴰ}
+use Prim.Native.Nat.{ℕ, _≤_, _<_}
 use native.Mathlib.Nat.{zero-add}
-use lib.ListN.{length, getD}
-use Rattle.literals.specs.Bits.{Bits, Bytes, bitAt, valueOf}
-use Rattle.literals.specs.Patterns.{Cidr, Exact, IpRange, Wildcard}
+use lib.ListN.{length}
+use Rattle.literals.specs.Bits.{Bytes}
 use Rattle.expr.specs.Answers.{andThen, mapAnswer, ok, refuse}
 use Rattle.expr.specs.Form.{Within, decode, encode}
-use Rattle.expr.specs.Terms.{Assigns, Core, Expr, Matches, Tests, Where, records}
+use Rattle.expr.specs.Terms.{Core, Expr, records}
 use Rattle.expr.proofs.FormTheorem.{bytes-of-encode, decode-encode, form-exact}
 use Rattle.desugar.specs.Bindings.{Env}
+use Rattle.desugar.specs.Claims.{Limit}
 use Rattle.desugar.specs.Desugar.{desugarBytes}
-use Rattle.desugar.specs.Leaves.{useCore}
 use Rattle.desugar.specs.Negation.{isTest}
-use Rattle.desugar.specs.Packets.{OneStep, Others, Packet, coreMeans}
-use Rattle.desugar.specs.Rules.{rangeRule}
-use Rattle.desugar.proofs.Limit.{Limit, limit}
-use Rattle.desugar.proofs.Patterns.{Sets, TestsFor, assign-form, match-form, test-form}
-use Rattle.desugar.proofs.Probes.{asked, starred, starred-probes}
+use Rattle.desugar.specs.Packets.{OneStep, Others, Packet, coreMeans, oneStep}
+use Rattle.desugar.specs.Probes.{computed, starred, stated}
+use Rattle.desugar.proofs.Limit.{limit}
+use Rattle.desugar.proofs.Probes.{starred-probes}
 use Rattle.netkat.specs.Check.{RulesHold, check, checkBytes, firstFailure, sorts, testSort}
+use Rattle.netkat.specs.Claims.{Desugared, Desugars, Good, Inside, PointAt, Refusal}
+use Rattle.netkat.specs.Demands.{Answers, Call, Declined, Demand1, Demand2, Demand3}
 use Rattle.netkat.specs.Points.{Point, Scope, definitions, desugarAt, meansAt, oneSteps, walk}
+use Rattle.netkat.specs.declared.Answer.{Answer as HostAnswer}
 use Rattle.netkat.proofs.AtPoint.{desugar-at-answers, desugar-at-means, desugar-at-succeeds}
-use Rattle.netkat.proofs.Inside.{Inside, PointAt, each-record, inside-points, walk-inside, walk-length}
+use Rattle.netkat.proofs.Demands.{each-call, points-and-whole, trees-and-forms}
+use Rattle.netkat.proofs.Inside.{each-record, inside-points, walk-inside, walk-length}
 use Rattle.netkat.proofs.Numbers.{Numbered, desugar-at-numbers}
 use Rattle.netkat.proofs.Rules.{behind-rule, none-fails, rules-append}
-use Rattle.netkat.proofs.Whole.{Desugared, Desugars, Good, Refusal, check-bytes, desugar-bytes, desugared-bytes, refused-bytes}
+use Rattle.netkat.proofs.Whole.{check-bytes, desugar-bytes, desugared-bytes, refused-bytes}
+
+-- ## The three demands (specs/Demands.antt)
+
+-- "Malformed bytes, broken rules, numbers out of range, a spent allowance and short buffers are refused, each by its number and place in
+-- document 01, with the answer buffer untouched. All other input is accepted. Every call on any bytes ends.": of every exported function,
+-- whose contract is Answers. That a call ends is part of what the prover shows of each function
+pub demand-1 : (c : Call) (out out′ : List ℕ) (r : HostAnswer) → Answers c out out′ r → Demand1 (Declined c (length out)) out out′ r
+demand-1 = each-call
+
+-- "For every term within document 01's limits, with an allowance and buffers that cover it, the core is the tree that `desugar` gives, and a
+-- refusal is of the kind it gives. Each literal, prefix, wildcard and range form is proved to hold of, or set, exactly the field values
+-- that document 01 defines from NetKAT's packet meaning." `others` is any meaning of the kinds that are not one-step
+pub demand-2 : (others : Others) → Demand2 others
+demand-2 = trees-and-forms
+
+-- "Take any term of good form, any point of it, and the lets and aliases around that point, where the definitions of those lets pass. .."
+pub demand-3 : (others : Others) → Demand3 others
+demand-3 = points-and-whole
 
 -- ## Form: what is accepted
 
--- A list of bytes is accepted exactly if it is the encoding of a term within the limits (expr/specs/Form.antt: Within), and then it
--- is read as that term: all other input is accepted, and nothing is read in two ways
+-- A list of bytes is of good form exactly if it is the encoding of a term within the limits (expr/specs/Form.antt: Within), and then it
+-- is read as that term: nothing is read in two ways
 pub form-theorem : (bs : List ℕ) (e : Expr) → Bytes bs → (decode bs ≡ ok e) ↔ (Within e × (bs ≡ encode e))
 form-theorem = form-exact
 
@@ -41,50 +62,15 @@ form-theorem = form-exact
 pub encode-theorem : (e : Expr) → Within e → Bytes (encode e) × (decode (encode e) ≡ ok e)
 encode-theorem e w = (bytes-of-encode e (w .fits), decode-encode e w)
 
--- ## Demand 2: each form holds of, or sets, exactly its values
-
--- Where the rules on its range hold, the core of each form, by itself: of packets, and of the values that the range can have
--- (desugar/proofs/Patterns.antt: TestsFor and Sets). `others` is any meaning of the kinds that are not one-step.
-module _ (others : Others) (w : Where) (s e at : ℕ) where
-  -- "the range's value is the literal"
-  pub test-theorem : (a : Bits) → rangeRule w (Tests a) (s, e) at ≡ ok tt
-      → TestsFor others (useCore (Tests a) s (e - s)) s e (λ v. v ≡ valueOf a)
-  test-theorem = test-form others w s e at
-
-  -- "q is p with that bit given the value; range and alias assignment likewise, for the whole range"
-  pub assign-theorem : (a : Bits) → rangeRule w (Assigns a) (s, e) at ≡ ok tt
-      → Sets others (useCore (Assigns a) s (e - s)) s e (valueOf a)
-  assign-theorem = assign-form others w s e at
-
-  pub exact-theorem : (a : Bits) → rangeRule w (Matches (Exact a)) (s, e) at ≡ ok tt
-      → TestsFor others (useCore (Matches (Exact a)) s (e - s)) s e (λ v. v ≡ valueOf a)
-  exact-theorem a = match-form others w s e at (Exact a)
-
-  -- "agrees in the prefix bits": the k highest of e - s
-  pub cidr-theorem : (a : Bits) (k : ℕ) → rangeRule w (Matches (Cidr a k)) (s, e) at ≡ ok tt
-      → TestsFor others (useCore (Matches (Cidr a k)) s (e - s)) s e (λ v. (i : ℕ) → e - s - k ≤ i → i < e - s → bitAt i v ≡ getD a i false)
-  cidr-theorem a k = match-form others w s e at (Cidr a k)
-
-  -- "agrees where the mask is false"
-  pub wildcard-theorem : (a m : Bits) → rangeRule w (Matches (Wildcard a m)) (s, e) at ≡ ok tt
-      → TestsFor others (useCore (Matches (Wildcard a m)) s (e - s)) s e
-      (λ v. (i : ℕ) → i < e - s → getD m i false ≡ false → bitAt i v ≡ getD a i false)
-  wildcard-theorem a m = match-form others w s e at (Wildcard a m)
-
-  -- "lies between the bounds, both included"
-  pub ip-range-theorem : (a b : Bits) → rangeRule w (Matches (IpRange a b)) (s, e) at ≡ ok tt
-      → TestsFor others (useCore (Matches (IpRange a b)) s (e - s)) s e (λ v. (valueOf a ≤ v) × (v ≤ valueOf b))
-  ip-range-theorem a b = match-form others w s e at (IpRange a b)
-
 -- ## The allowance
 
--- The sum of the draws in walking order, up to the result or to the rule that fails, is a threshold: with an allowance of at least
--- that the answer is the one without limit and that much is taken; with less it is 24 at the first draw beyond the allowance
--- (desugar/proofs/Limit.antt: Limit, overdrawn)
+-- There is a threshold: with an allowance of at least that the answer is the one without limit; with less it is 24 at the first draw beyond
+-- the allowance. Where the walk has a result, the threshold is the sum of its draws in walking order, and that much is taken; where a
+-- rule fails, the list of draws is one that sets the threshold and the places of 24 (desugar/specs/Claims.antt: Limit)
 pub limit-theorem : (env : Env Core) (e : Expr) (at : ℕ) → (ds : List (ℕ × ℕ)) × Limit env e at ds
 limit-theorem = limit
 
--- ## Demand 3: at any point of any term
+-- ## At any point of any term
 
 -- For the subterm e that begins at a record, with the Lets and LetBitRanges sc around it
 pub record AtPoint (others : Others) (sc : Scope) (e : Expr) (at : ℕ) : Type 0 where
@@ -113,7 +99,7 @@ at-any-point others sc e at =
     }
 
 -- "a point is a record of the term, with the subterm that begins there": as many as its records, one at each, and each with the
--- subterm that begins there and what stands around it (Inside.antt: Inside has a case for each way down)
+-- subterm that begins there and what stands around it (specs/Claims.antt: Inside has a case for each way down)
 pub points-are-records : (e : Expr) → (length (walk [] e 0) ≡ records e) × ((i : ℕ) → i < records e → PointAt (walk [] e 0) i)
 points-are-records e = (walk-length [] e 0, λ i h. rw (zero-add i) at (each-record [] e 0 i h))
 
@@ -135,13 +121,13 @@ everywhere e s h p m =
 pub check-theorem : (bs : List ℕ) (s : Bool) → (checkBytes bs ≡ ok s) ↔ ((e : Expr) × Good bs e × (s ≡ testSort [] e))
 check-theorem bs s = check-bytes bs s
 
--- "where Check succeeds, Desugar succeeds or answers 9, 10, 24 or 26, each only for its cause above" (Whole.antt: Desugars, Outcome): 24
+-- "where Check succeeds, Desugar succeeds or answers 9, 10, 24 or 26, each only for its cause above" (specs/Claims.antt: Desugars, Outcome): 24
 -- only if the draws, in walking order, come to more than the allowance, and then at the first that goes beyond it
 pub desugar-theorem : (bs : List ℕ) (s : Bool) → checkBytes bs ≡ ok s → (e : Expr) × Good bs e × Desugars bs e
 desugar-theorem bs s h = let g = check-bytes bs s .0 h in (g .0, g .1, desugar-bytes bs (g .0) (g .1))
 
 -- "where Desugar succeeds, Check refuses by neither form nor rule, and the bytes Desugar wrote are those of the core made without limit",
--- with the sum of its draws (Whole.antt: Desugared)
+-- with the sum of its draws (specs/Claims.antt: Desugared)
 pub desugared-theorem : (bs : List ℕ) (n work room : ℕ) (out : List ℕ) (m : ℕ) → desugarBytes bs n work room ≡ ok (out, m)
     → ((s : Bool) × (checkBytes bs ≡ ok s)) × Desugared bs out m
 desugared-theorem bs n work room out m h =
@@ -149,12 +135,20 @@ desugared-theorem bs n work room out m h =
     ((testSort [] (d .term), check-bytes bs (testSort [] (d .term)) .1 (d .term, d .good, refl)), d)
 
 -- where Check refuses, Desugar answers 9, 10 or the same refusal, or 24 where the allowance is spent before the rule that fails
--- (Whole.antt: Refusal)
+-- (specs/Claims.antt: Refusal)
 pub refused-theorem : (bs : List ℕ) (r p : ℕ) → checkBytes bs ≡ refuse r p → (n work room : ℕ) → Refusal bs r p n work (desugarBytes bs n work room)
 refused-theorem = refused-bytes
 
--- ## The starred probes
+-- ## Computed lists
 
--- "* x[0..2] == 1/2: .." to the last starred sentence, bytes included, as one list (desugar/proofs/Probes.antt)
-pub starred-theorem : map (λ p. asked (p .0)) starred ≡ map (λ p. ok (p .1)) starred
+-- "One-step kinds are all but Top, Dup, End, Complement, LtlNext, LtlUntil.": of the kinds 0 to 26 these six, 2, 3, 4, 13, 15 and 12, are not
+pub one-step-theorem : map oneStep (0 ∷ 1 ∷ 2 ∷ 3 ∷ 4 ∷ 5 ∷ 6 ∷ 7 ∷ 8 ∷ 9 ∷ 10 ∷ 11 ∷ 12 ∷ 13 ∷ 14 ∷ 15 ∷ 16 ∷ 17 ∷ 18 ∷ 19 ∷ 20 ∷ 21 ∷ 22 ∷ 23 ∷ 24 ∷ 25 ∷ 26 ∷ [])
+    ≡ true ∷ true ∷ false ∷ false ∷ false ∷ true ∷ true
+    ∷ true ∷ true ∷ true ∷ true ∷ true ∷ false ∷ false ∷ true ∷ false
+    ∷ true ∷ true ∷ true ∷ true ∷ true ∷ true ∷ true ∷ true ∷ true ∷ true ∷ true ∷ []
+one-step-theorem = refl
+
+-- "The starred cases are proved from the definitions as one list under one theorem": "x[0..2] == 1/2: .." to the last starred sentence, each
+-- with its answer, its core's bytes and its node count (desugar/specs/Probes.antt)
+pub starred-theorem : map computed starred ≡ map stated starred
 starred-theorem = starred-probes

@@ -8,25 +8,23 @@ use native.Mathlib.Decide.{decLt}
 use native.Mathlib.Omega.{arith}
 use lib.Dec.{leb}
 use lib.ListN.{length}
-use Rattle.literals.proofs.Logic.{and-iff, leb-is, not-le-of}
+use borrow.Author.Tests.{lt-leb}
+use Rattle.literals.proofs.Logic.{and-iff, false-of, leb-is, not-le-of}
 use Rattle.expr.specs.Answers.{Answer, andThen, mapAnswer, need, ok, refuse}
 use Rattle.expr.specs.Form.{decode, encodeCore}
 use Rattle.expr.specs.Operations.{intoRoom}
 use Rattle.expr.specs.Terms.{Core, Expr}
+use Rattle.desugar.specs.Claims.{Limit}
 use Rattle.desugar.specs.Desugar.{desugar, desugarBytes, drawnOf, maxAllowance, workFor}
 use Rattle.desugar.specs.Meter.{Meter, drawn, left, spent}
 use Rattle.desugar.specs.Negation.{isTest}
-use Rattle.desugar.proofs.Limit.{Costs, Limit, desugar-costs, gives, limit, overdrawn, stops}
+use Rattle.desugar.proofs.Limit.{Costs, desugar-costs, gives, limit, stops}
 use Rattle.netkat.specs.Check.{RulesHold, check, checkBytes, firstFailure, testSort}
+use Rattle.netkat.specs.Claims.{Allowed, Desugared, Desugars, Good, Outcome, Refusal}
 use Rattle.netkat.specs.Points.{walk}
 use Rattle.netkat.proofs.Agree.{Seen, refused, seen}
 use Rattle.netkat.proofs.AtPoint.{seen-answer, seen-at, then-ok}
 use Rattle.netkat.proofs.Rules.{behind-rule, check-succeeds, none-fails}
-
--- the form is good, and rules 11 to 23 hold at every record
-pub record Good (bs : List ℕ) (e : Expr) : Type 0 where
-  pub form : decode bs ≡ ok e
-  pub rules : RulesHold (walk [] e 0)
 
 -- Check succeeds exactly there, and says whether the term is a test
 pub check-bytes : (bs : List ℕ) (s : Bool) → (checkBytes bs ≡ ok s) ↔ ((e : Expr) × Good bs e × (s ≡ testSort [] e))
@@ -40,25 +38,13 @@ check-bytes bs s = (
 
 -- ## What Desugar answers
 
--- the causes of 9 and 10
-abbrev pub Allowed : ℕ → Type 0
-Allowed n = (1 ≤ n) × (n ≤ maxAllowance)
-
--- on a term of good form and rules, whose core without limit is c with the draws ds: success, or a refusal for its cause
-pub data Outcome (c : Core) (ds : List (ℕ × ℕ)) (n work room : ℕ) : Answer (List ℕ × ℕ) → Type 0 where
-  done : Allowed n → workFor n ≤ work → drawn ds ≤ n → length (encodeCore c) ≤ room → Outcome c ds n work room (ok (encodeCore c, drawn ds))
-  allowance : ¬ Allowed n → Outcome c ds n work room (refuse 9 0)
-  memory : work < workFor n → Outcome c ds n work room (refuse 10 0)
-  beyond : n < drawn ds → Outcome c ds n work room (refuse 24 (overdrawn n ds))
-  long : room < length (encodeCore c) → Outcome c ds n work room (refuse 26 0)
-
 -- a rule that holds or does not
 by-need : {A : Type 0} (P : Answer A → Type 0) (b : Bool) (r at : ℕ) (f : Unit {0} → Answer A)
     → (b ≡ false → P (refuse r at)) → (b ≡ true → P (f tt)) → P (andThen (need b r at) f)
 by-need P true r at f no-case yes-case = yes-case refl
 by-need P false r at f no-case yes-case = no-case refl
 
-by-room : {A : Type 0} (P : Answer A → Type 0) (bs : List ℕ) (room : ℕ) (f : List ℕ → Answer A)
+pub by-room : {A : Type 0} (P : Answer A → Type 0) (bs : List ℕ) (room : ℕ) (f : List ℕ → Answer A)
     → (room < length bs → P (refuse 26 0)) → (length bs ≤ room → P (f bs)) → P (andThen (intoRoom bs room) f)
 by-room P bs room f no-case yes-case = go (leb (length bs) room) refl
   where
@@ -66,33 +52,34 @@ by-room P bs room f no-case yes-case = go (leb (length bs) room) refl
     go true e = yes-case (leb-is (length bs) room .0 e)
     go false e = no-case (not-le-of (length bs) room e)
 
+-- the test of 9
+allowed : (n : ℕ) → ((leb 1 n && leb n maxAllowance) ≡ true) ↔ Allowed n
+allowed n = and-iff (leb 1 n) (leb n maxAllowance) (leb-is 1 n) (leb-is n maxAllowance)
+
+-- what follows once the form is read
+abbrev pub rest : Expr → ℕ → ℕ → Answer (List ℕ × ℕ)
+rest e n room = andThen (desugar [] e 0 (left n)) λ r. andThen (intoRoom (encodeCore (r .0)) room) λ out. ok (out, drawnOf n (r .1))
+
+module _ (bs : List ℕ) (n work room : ℕ) where
+  pub not-allowed : ¬ Allowed n → desugarBytes bs n work room ≡ refuse 9 0
+  not-allowed h = rw (false-of (leb 1 n && leb n maxAllowance) (λ e. h (allowed n .0 e)))
+
+  pub too-little-memory : Allowed n → work < workFor n → desugarBytes bs n work room ≡ refuse 10 0
+  too-little-memory a h = rw (allowed n .1 a, lt-leb (workFor n) work h)
+
+  pub within-limits : Allowed n → workFor n ≤ work → desugarBytes bs n work room ≡ andThen (decode bs) (λ e. rest e n room)
+  within-limits a m = rw (allowed n .1 a, leb-is (workFor n) work .1 m)
+
 -- 9 and 10 come first, each for its cause
-by-limits : {A : Type 0} (P : Answer A → Type 0) (n work : ℕ) (x : Answer A)
-    → (¬ Allowed n → P (refuse 9 0)) → (work < workFor n → P (refuse 10 0)) → (Allowed n → workFor n ≤ work → P x)
+pub by-limits : {A : Type 0} (P : Answer A → Type 0) (n work : ℕ) (x : Answer A)
+    → (¬ Allowed n → P (refuse 9 0)) → (Allowed n → work < workFor n → P (refuse 10 0)) → (Allowed n → workFor n ≤ work → P x)
     → P (andThen (need (leb 1 n && leb n maxAllowance) 9 0) λ _. andThen (need (leb (workFor n) work) 10 0) λ _. x)
 by-limits P n work x nine ten other =
     by-need P (leb 1 n && leb n maxAllowance) 9 0 _
-    (λ b. nine (λ h. false≢true (sym b ∙ allowed .1 h)))
+    (λ b. nine (λ h. false≢true (sym b ∙ allowed n .1 h)))
     (λ b. by-need P (leb (workFor n) work) 10 0 _
-    (λ c. ten (not-le-of (workFor n) work c))
-    (λ c. other (allowed .0 b) (leb-is (workFor n) work .0 c)))
-  where
-    allowed : ((leb 1 n && leb n maxAllowance) ≡ true) ↔ Allowed n
-    allowed = and-iff (leb 1 n) (leb n maxAllowance) (leb-is 1 n) (leb-is n maxAllowance)
-
--- what follows once the form is read
-abbrev rest : Expr → ℕ → ℕ → Answer (List ℕ × ℕ)
-rest e n room = andThen (desugar [] e 0 (left n)) λ r. andThen (intoRoom (encodeCore (r .0)) room) λ out. ok (out, drawnOf n (r .1))
-
--- the core without limit and the draws made for it
-abbrev pub Unlimited : Expr → Core → List (ℕ × ℕ) → Type 0
-Unlimited e c ds = desugar [] e 0 (spent []) ≡ ok (c, spent ds)
-
-pub record Desugars (bs : List ℕ) (e : Expr) : Type 0 where
-  pub core : Core
-  pub draws : List (ℕ × ℕ)
-  pub unlimited : Unlimited e core draws
-  pub outcome : (n work room : ℕ) → Outcome core draws n work room (desugarBytes bs n work room)
+    (λ c. ten (allowed n .0 b) (not-le-of (workFor n) work c))
+    (λ c. other (allowed n .0 b) (leb-is (workFor n) work .0 c)))
 
 -- a term of good form and rules has a core without limit, and Desugar's answer is one of the five
 pub desugar-bytes : (bs : List ℕ) (e : Expr) → Good bs e → Desugars bs e
@@ -109,18 +96,18 @@ desugar-bytes bs e good = go (desugar-costs [] e 0) (seen-at [] [] e 0 refl) (ch
           core = c;
           draws = ds;
           unlimited = s [];
-          outcome = λ n work room. by-limits (Outcome c ds n work room) n work _ (λ h. allowance h) (λ h. memory h) (λ a m.
+          outcome = λ n work room. by-limits (Outcome c ds n work room) n work _ (λ h. Outcome.allowance h) (λ _ h. Outcome.memory h) (λ a m.
               rw (good .form) (last n work room a m (decLt n (drawn ds))));
         }
       where
         last : (n work room : ℕ) → Allowed n → workFor n ≤ work → Dec (n < drawn ds) → Outcome c ds n work room (rest e n room)
-        last n work room a m (yes q) = rw (l n q) (beyond q)
+        last n work room a m (yes q) = rw (l n q) (Outcome.beyond q)
         last n work room a m (no q) =
             let total : n - (n - drawn ds) ≡ drawn ds = omega arith in
             rw (g n (omega arith))
             (by-room (Outcome c ds n work room) (encodeCore c) room (λ out. ok (out, n - (n - drawn ds)))
-            (λ h. long h)
-            (λ h. rw total (done a m (omega arith) h)))
+            (λ h. Outcome.long h)
+            (λ h. rw total (Outcome.done a m (omega arith) h)))
 
 -- ## Where Desugar succeeds
 
@@ -129,11 +116,11 @@ pair-of {a} {b} {x} {y} e = let p : _≡_ {A = List ℕ × ℕ} (a, x) (b, y) = 
 
 only-done : (c : Core) (ds : List (ℕ × ℕ)) (n work room : ℕ) {y : Answer (List ℕ × ℕ)} (out : List ℕ) (m : ℕ)
     → Outcome c ds n work room y → y ≡ ok (out, m) → (out ≡ encodeCore c) × (m ≡ drawn ds)
-only-done c ds n work room out m (done _ _ p q) h = (sym (pair-of h .0), sym (pair-of h .1))
-only-done c ds n work room out m (allowance p) h = let z : _≡_ {A = ℕ} 0 1 = cc in absurd (omega arith)
-only-done c ds n work room out m (memory p) h = let z : _≡_ {A = ℕ} 0 1 = cc in absurd (omega arith)
-only-done c ds n work room out m (beyond p) h = let z : _≡_ {A = ℕ} 0 1 = cc in absurd (omega arith)
-only-done c ds n work room out m (long p) h = let z : _≡_ {A = ℕ} 0 1 = cc in absurd (omega arith)
+only-done c ds n work room out m (Outcome.done _ _ p q) h = (sym (pair-of h .0), sym (pair-of h .1))
+only-done c ds n work room out m (Outcome.allowance p) h = let z : _≡_ {A = ℕ} 0 1 = cc in absurd (omega arith)
+only-done c ds n work room out m (Outcome.memory p) h = let z : _≡_ {A = ℕ} 0 1 = cc in absurd (omega arith)
+only-done c ds n work room out m (Outcome.beyond p) h = let z : _≡_ {A = ℕ} 0 1 = cc in absurd (omega arith)
+only-done c ds n work room out m (Outcome.long p) h = let z : _≡_ {A = ℕ} 0 1 = cc in absurd (omega arith)
 
 -- with a limit or without, a success means that the rules hold at every record
 rules-of : (e : Expr) (n : ℕ) (r : Core × Meter) → desugar [] e 0 (left n) ≡ ok r → RulesHold (walk [] e 0)
@@ -154,15 +141,6 @@ rules-of e n r h = go (desugar-costs [] e 0)
         pick : Dec (n < drawn ds) → ⊥
         pick (yes d) = apart (l n d)
         pick (no d) = apart (g n (omega arith))
-
-pub record Desugared (bs : List ℕ) (out : List ℕ) (m : ℕ) : Type 0 where
-  pub term : Expr
-  pub good : Good bs term
-  pub core : Core
-  pub draws : List (ℕ × ℕ)
-  pub unlimited : Unlimited term core draws
-  pub bytes : out ≡ encodeCore core
-  pub total : m ≡ drawn draws
 
 -- the term is of good form and rules, and the answer is the core made without limit and the sum of its draws
 pub desugared-bytes : (bs : List ℕ) (n work room : ℕ) (out : List ℕ) (m : ℕ) → desugarBytes bs n work room ≡ ok (out, m) → Desugared bs out m
@@ -192,32 +170,25 @@ desugared-bytes bs n work room out m h =
 
 -- ## Where Check refuses
 
--- where Check refuses by r at p: 9 or 10 for its cause, the same refusal, or 24 where the allowance is spent before the rule that fails
-pub data Refusal (bs : List ℕ) (r p n work : ℕ) : Answer (List ℕ × ℕ) → Type 0 where
-  allowance : ¬ Allowed n → Refusal bs r p n work (refuse 9 0)
-  memory : work < workFor n → Refusal bs r p n work (refuse 10 0)
-  same : Refusal bs r p n work (refuse r p)
-  beyond : (e : Expr) (ds : List (ℕ × ℕ)) → decode bs ≡ ok e → Limit [] e 0 ds → n < drawn ds → Refusal bs r p n work (refuse 24 (overdrawn n ds))
-
 -- a refusal is the same refusal whatever is seen of a result
-unmapped : {A B : Type 0} (f : A → B) (x : Answer A) {r p : ℕ} → mapAnswer f x ≡ refuse r p → x ≡ refuse r p
+pub unmapped : {A B : Type 0} (f : A → B) (x : Answer A) {r p : ℕ} → mapAnswer f x ≡ refuse r p → x ≡ refuse r p
 unmapped f (ok a) h = let z : _≡_ {A = ℕ} 0 1 = cc in absurd (omega arith)
 unmapped f (refuse q m) {r} {p} h = let a : q ≡ r = cc in let b : m ≡ p = cc in λ i. refuse (a i) (b i)
 
 -- Desugar refuses what Check refuses
 pub refused-bytes : (bs : List ℕ) (r p : ℕ) → checkBytes bs ≡ refuse r p → (n work room : ℕ) → Refusal bs r p n work (desugarBytes bs n work room)
 refused-bytes bs r p h n work room =
-    by-limits (Refusal bs r p n work) n work _ (λ a. allowance a) (λ m. memory m) (λ a m. read (decode bs) refl h)
+    by-limits (Refusal bs r p n work) n work _ (λ a. Refusal.allowance a) (λ _ m. Refusal.memory m) (λ a m. read (decode bs) refl h)
   where
     walked : (e : Expr) → decode bs ≡ ok e → check [] e 0 ≡ refuse r p → (ds : List (ℕ × ℕ)) → Limit [] e 0 ds → Dec (n < drawn ds)
         → Refusal bs r p n work (rest e n room)
-    walked e f k ds l (yes q) = rw (l .short n q) (beyond e ds f l q)
+    walked e f k ds l (yes q) = rw (l .short n q) (Refusal.beyond e ds f l q)
     walked e f k ds l (no q) =
         let without = seen-answer (seen-at [] [] e 0 refl) ∙ k in
         let within : mapAnswer (λ r. r .0) (desugar [] e 0 (left n)) ≡ refuse r p = l .enough n [] (omega arith) ∙ unmapped isTest _ without in
-        rw (unmapped (λ r. r .0) (desugar [] e 0 (left n)) within) same
+        rw (unmapped (λ r. r .0) (desugar [] e 0 (left n)) within) Refusal.same
 
     read : (x : Answer Expr) → decode bs ≡ x → andThen x (λ e. check [] e 0) ≡ refuse r p
         → Refusal bs r p n work (andThen x (λ e. rest e n room))
     read (ok e) f k = walked e f k (limit [] e 0 .0) (limit [] e 0 .1) (decLt n (drawn (limit [] e 0 .0)))
-    read (refuse q m) f k = let a : q ≡ r = cc in let b : m ≡ p = cc in rw (a, b) same
+    read (refuse q m) f k = let a : q ≡ r = cc in let b : m ≡ p = cc in rw (a, b) Refusal.same

@@ -1,5 +1,7 @@
 -- The check, and desugaring and meaning at a point. Read in this order.
 pub mod Points
 pub mod Check
-pub mod CheckWords
 pub mod Entry
+pub mod Claims
+pub mod Demands
+pub mod CheckWords

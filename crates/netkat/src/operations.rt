@@ -77,6 +77,7 @@ pub extern "C" fn netkat_desugar(
 ) -> Answer
     ensures { λ r. ⌜ Hosts (desugarBytes (now (term .entry)) allowance (length (now (work .entry))) (length (now (out .entry))))
         (now (out .entry)) (now (out .exit)) r ⌝ }
+    ensures { λ r. ⌜ length (now (work .exit)) ≡ length (now (work .entry)) ⌝ }
 {
     match desugar::bytes::desugar(term, allowance, work, out) {
         Desugared::Refused(number, at) => crate::answers::refused(number, at),

@@ -71,9 +71,11 @@ same-length-2 c = search needs
 
 returns : tie.Need-returns
 returns c =
-    let k = c .before .before .before .before .before .before .before .before in
-    hosts-both (answer k) (c .refused .ensures)
-    (ap desugaredAnswer (sym (c .before .before .number .given .1)) ∙ k .desugar .ensures .answer) (k .desugar .ensures .buffer)
+    let k = c .before .before .before .before .before .before .before .before in (
+      hosts-both (answer k) (c .refused .ensures)
+          (ap desugaredAnswer (sym (c .before .before .number .given .1)) ∙ k .desugar .ensures .answer) (k .desugar .ensures .buffer),
+      search needs,
+    )
 
 same-length-3 : tie.Need-same-length-3
 same-length-3 c = search needs
@@ -83,9 +85,11 @@ same-length-4 c = search needs
 
 returns-2 : tie.Need-returns-2
 returns-2 c =
-    let k = c .before .before .before .before .before .before .before .before in
-    hosts-both (answer k) (c .success .ensures)
-    (ap desugaredAnswer (sym (c .before .before .length .given .1)) ∙ k .desugar .ensures .answer) (k .desugar .ensures .buffer)
+    let k = c .before .before .before .before .before .before .before .before in (
+      hosts-both (answer k) (c .success .ensures)
+          (ap desugaredAnswer (sym (c .before .before .length .given .1)) ∙ k .desugar .ensures .answer) (k .desugar .ensures .buffer),
+      search needs,
+    )
 
 pub netkat-desugar-spec : {M : Type 1} → statement M
 netkat-desugar-spec =

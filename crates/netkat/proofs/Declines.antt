@@ -1,0 +1,291 @@
+-- By which number and at which place each operation declines: the causes in specs/Demands.antt are exactly the refusals of the definitions,
+-- and no refusal has the number 0.
+use mathlib.Core.Path.{_≡_, refl, sym, ap, subst, _∙_}
+use mathlib.Core.Logic.{_↔_}
+use mathlib.Core.Bool.{Bool, true, false, _&&_, false≢true}
+use mathlib.Core.List.{List, []}
+use Prim.Native.Nat.{ℕ, _+_, _-_, _^_, _≤_, _<_}
+use native.Mathlib.Decide.{decLt}
+use native.Mathlib.Omega.{arith}
+use lib.Dec.{leb, ltb}
+use lib.ListN.{length}
+use borrow.Author.Tests.{lt-leb, lt-ltb, ltb-true}
+use Rattle.literals.proofs.Logic.{and-iff, false-of, leb-is}
+use Rattle.expr.specs.Answers.{Answer, andThen, mapAnswer, need, ok, refuse}
+use Rattle.expr.specs.Form.{decode, encode, encodeCore, maxDepth, maxRecords}
+use Rattle.expr.specs.Operations.{atomFields, fieldsBytes, fragmentBytes, intoRoom, isTestFragment, numFields, raised, substitute, substituteBytes}
+use Rattle.expr.specs.Terms.{Alias, Binary, Core, Direct, Expr, IfThenElse, Let, LetBitRange, Name, Plain, Ranged, TestNegation, Unary, Var, depth, records}
+use Rattle.expr.proofs.Refusals.{decode-numbers}
+use Rattle.desugar.specs.Bindings.{computeSubrange}
+use Rattle.desugar.specs.Claims.{Limit}
+use Rattle.desugar.specs.Desugar.{desugar, desugarBytes, workFor}
+use Rattle.desugar.specs.Meter.{Meter, drawn, left, spent}
+use Rattle.desugar.specs.Negation.{isTest}
+use Rattle.desugar.proofs.Limit.{Costs, desugar-costs, drawsOf, gives, limit-of, limited, stops}
+use Rattle.netkat.specs.Check.{check, checkBytes, firstFailure, testSort}
+use Rattle.netkat.specs.Claims.{Allowed, Unlimited}
+use Rattle.netkat.specs.Demands.{CheckDeclined, DesugarDeclined, FieldsDeclined, InLimits, SubrangeInside, SubstituteDeclined}
+use Rattle.netkat.specs.Points.{walk}
+use Rattle.netkat.proofs.AtPoint.{refusal-of, seen-answer, seen-at}
+use Rattle.netkat.proofs.Numbers.{Numbered, failure-numbers, numbered-map, numbered-need, numbered-then}
+use Rattle.netkat.proofs.Whole.{by-limits, by-room, not-allowed, rest, too-little-memory, unmapped, within-limits}
+
+-- an answer is refused exactly for these causes, and no number is 0
+pub record Decided {A : Type 0} (declined : ℕ → ℕ → Type 0) (x : Answer A) : Type 0 where
+  pub causes : (k p : ℕ) → declined k p ↔ (x ≡ refuse k p)
+  pub named : (k p : ℕ) → x ≡ refuse k p → 1 ≤ k
+
+-- from the causes both ways, and their numbers
+decided : {A : Type 0} (D : ℕ → ℕ → Type 0) (x : Answer A) → ((k p : ℕ) → D k p → x ≡ refuse k p) → ((k p : ℕ) → x ≡ refuse k p → D k p)
+    → ((k p : ℕ) → D k p → 1 ≤ k) → Decided D x
+decided D x f g n = record { causes = λ k p. (f k p, g k p); named = λ k p e. n k p (g k p e) }
+
+pub decided-map : {A B : Type 0} {D : ℕ → ℕ → Type 0} (f : A → B) (x : Answer A) → Decided D x → Decided D (mapAnswer f x)
+decided-map f x h =
+    record {
+      causes = λ k p. ((λ d. ap (mapAnswer f) (h .causes k p .0 d)), (λ e. h .causes k p .1 (unmapped f x e)));
+      named = λ k p e. h .named k p (unmapped f x e);
+    }
+
+-- ## Refusals as equations
+
+ok-is-no-refusal : {A : Type 0} {a : A} {k p : ℕ} → ok a ≡ refuse k p → ⊥
+ok-is-no-refusal e = let z : _≡_ {A = ℕ} 0 1 = cc in absurd (omega arith)
+
+-- the same number and place, as an answer of another kind
+same-refusal : {A B : Type 0} {q m k p : ℕ} → _≡_ {A = Answer A} (refuse q m) (refuse k p) → _≡_ {A = Answer B} (refuse q m) (refuse k p)
+same-refusal {A} {B} {q} {m} {k} {p} e = let a : q ≡ k = cc in let b : m ≡ p = cc in λ i. refuse (a i) (b i)
+
+then-same : {A : Type 0} (x : Answer A) → andThen x (λ a. ok a) ≡ x
+then-same (ok a) = refl
+then-same (refuse r at) = refl
+
+-- a cause of one number and place is a cause of the number and place that were answered
+at-refusal : {A : Type 0} (D : ℕ → ℕ → Type 0) {q m k p : ℕ} → _≡_ {A = Answer A} (refuse q m) (refuse k p) → D q m → D k p
+at-refusal D {q} {m} {k} {p} e d = let a : q ≡ k = cc in let b : m ≡ p = cc in subst (λ i. D i p) a (subst (λ i. D q i) b d)
+
+-- ## Form, Test fragment
+
+form-decided : (bs : List ℕ) → Decided (λ k p. decode bs ≡ refuse k p) (decode bs)
+form-decided bs = decided _ (decode bs) (λ k p e. e) (λ k p e. e) (λ k p e. decode-numbers bs e .0)
+
+pub fragment-decided : (bs : List ℕ) → Decided (λ k p. decode bs ≡ refuse k p) (fragmentBytes bs)
+fragment-decided bs = decided-map isTestFragment (decode bs) (form-decided bs)
+
+-- ## Check
+
+check-refused : (e : Expr) {k p : ℕ} → (check [] e 0 ≡ refuse k p) ↔ (firstFailure (walk [] e 0) ≡ refuse k p)
+check-refused e = (
+  refusal-of (testSort [] e) (firstFailure (walk [] e 0)),
+  (λ h. ap (λ (y : Answer (Unit {0})). andThen y (λ _. ok (testSort [] e))) h),
+)
+
+failure-named : (e : Expr) {k p : ℕ} → firstFailure (walk [] e 0) ≡ refuse k p → 1 ≤ k
+failure-named e h = let n = subst (Numbered 11 23) h (failure-numbers (walk [] e 0)) in omega (arith, n .0)
+
+pub check-decided : (bs : List ℕ) → Decided (CheckDeclined bs) (checkBytes bs)
+check-decided bs = decided (CheckDeclined bs) (checkBytes bs) forth (λ k p. back k p (decode bs) refl) numbers
+  where
+    forth : (k p : ℕ) → CheckDeclined bs k p → checkBytes bs ≡ refuse k p
+    forth k p (CheckDeclined.form r q f) = ap (λ (x : Answer Expr). andThen x (λ e. check [] e 0)) f
+    forth k p (CheckDeclined.rule e r q f h) = ap (λ (x : Answer Expr). andThen x (λ e. check [] e 0)) f ∙ check-refused e .1 h
+
+    back : (k p : ℕ) (x : Answer Expr) → decode bs ≡ x → andThen x (λ e. check [] e 0) ≡ refuse k p → CheckDeclined bs k p
+    back k p (ok e) f h = CheckDeclined.rule e k p f (check-refused e .0 h)
+    back k p (refuse q m) f h = CheckDeclined.form k p (f ∙ same-refusal h)
+
+    numbers : (k p : ℕ) → CheckDeclined bs k p → 1 ≤ k
+    numbers k p (CheckDeclined.form r q f) = decode-numbers bs f .0
+    numbers k p (CheckDeclined.rule e r q f h) = failure-named e h
+
+-- ## Field count
+
+abbrev TwentyFive : {A : Type 0} → Answer A → Type 0
+TwentyFive x = Numbered 25 25 x
+
+-- it declines by 25 alone
+fields-numbers : (e : Expr) (at : ℕ) → TwentyFive (numFields e at)
+fields-numbers (Plain a) at =
+    numbered-then 25 25 (need (ltb (atomFields a) (2 ^ 32)) 25 at) _ (numbered-need 25 25 (ltb (atomFields a) (2 ^ 32)) 25 at (omega arith) (omega arith)) (λ _. tt)
+fields-numbers (Unary o e) at = fields-numbers e (at + 1)
+fields-numbers (Binary o a b) at =
+    numbered-then 25 25 (numFields a (at + 1)) _ (fields-numbers a (at + 1)) (λ _.
+    numbered-then 25 25 (numFields b (at + 1 + records a)) _ (fields-numbers b (at + 1 + records a)) (λ _. tt))
+fields-numbers (TestNegation e) at = fields-numbers e (at + 1)
+fields-numbers (IfThenElse c t e) at =
+    numbered-then 25 25 (numFields c (at + 1)) _ (fields-numbers c (at + 1)) (λ _.
+    numbered-then 25 25 (numFields t (at + 1 + records c)) _ (fields-numbers t (at + 1 + records c)) (λ _.
+    numbered-then 25 25 (numFields e (at + 1 + records c + records t)) _ (fields-numbers e (at + 1 + records c + records t)) (λ _. tt)))
+fields-numbers (Let x d b) at =
+    numbered-then 25 25 (numFields d (at + 1)) _ (fields-numbers d (at + 1)) (λ _.
+    numbered-then 25 25 (numFields b (at + 1 + records d)) _ (fields-numbers b (at + 1 + records d)) (λ _. tt))
+fields-numbers (LetBitRange x s e b) at = numbered-map 25 25 _ (numFields b (at + 1)) (fields-numbers b (at + 1))
+fields-numbers (Var x) at = tt
+fields-numbers (Ranged (Direct s e) u) at = tt
+fields-numbers (Ranged (Alias x) u) at = tt
+
+pub fields-decided : (bs : List ℕ) → Decided (FieldsDeclined bs) (fieldsBytes bs)
+fields-decided bs = decided (FieldsDeclined bs) (fieldsBytes bs) forth (λ k p. back k p (decode bs) refl) numbers
+  where
+    forth : (k p : ℕ) → FieldsDeclined bs k p → fieldsBytes bs ≡ refuse k p
+    forth k p (FieldsDeclined.form r q f) = ap (λ (x : Answer Expr). andThen x (λ e. numFields e 0)) f
+    forth k p (FieldsDeclined.field e r q f h) = ap (λ (x : Answer Expr). andThen x (λ e. numFields e 0)) f ∙ h
+
+    back : (k p : ℕ) (x : Answer Expr) → decode bs ≡ x → andThen x (λ e. numFields e 0) ≡ refuse k p → FieldsDeclined bs k p
+    back k p (ok e) f h = FieldsDeclined.field e k p f h
+    back k p (refuse q m) f h = FieldsDeclined.form k p (f ∙ same-refusal h)
+
+    numbers : (k p : ℕ) → FieldsDeclined bs k p → 1 ≤ k
+    numbers k p (FieldsDeclined.form r q f) = decode-numbers bs f .0
+    numbers k p (FieldsDeclined.field e r q f h) = let n = subst (Numbered 25 25) h (fields-numbers e 0) in omega (arith, n .0)
+
+-- ## Subrange
+
+module _ (a b s e : ℕ) where
+  abbrev inside : Bool
+  inside = ltb (a + s) (2 ^ 32) && (ltb (a + e) (2 ^ 32) && (leb s e && leb (a + e) b))
+
+  below : (m n : ℕ) → (ltb m n ≡ true) ↔ (m < n)
+  below m n = (ltb-true m n, lt-ltb m n)
+
+  facts : (inside ≡ true) ↔ ((a + s < 2 ^ 32) × ((a + e < 2 ^ 32) × ((s ≤ e) × (a + e ≤ b))))
+  facts =
+      and-iff (ltb (a + s) (2 ^ 32)) (ltb (a + e) (2 ^ 32) && (leb s e && leb (a + e) b)) (below (a + s) (2 ^ 32))
+      (and-iff (ltb (a + e) (2 ^ 32)) (leb s e && leb (a + e) b) (below (a + e) (2 ^ 32))
+      (and-iff (leb s e) (leb (a + e) b) (leb-is s e) (leb-is (a + e) b)))
+
+  inside-is : (inside ≡ true) ↔ SubrangeInside a b s e
+  inside-is = (
+    (λ h. let k = facts .0 h in record { start = k .0; end = k .1 .0; order = k .1 .1 .0; inside = k .1 .1 .1 }),
+    (λ h. facts .1 (h .start, (h .end, (h .order, h .inside)))),
+  )
+
+  pub subrange-decided : Decided (λ k p. ¬ SubrangeInside a b s e × (k ≡ 28) × (p ≡ 0)) (computeSubrange a b s e)
+  subrange-decided = decided _ (computeSubrange a b s e) forth (λ k p. back k p inside refl) (λ k p d. omega (arith, d .1))
+    where
+      forth : (k p : ℕ) → ¬ SubrangeInside a b s e × (k ≡ 28) × (p ≡ 0) → computeSubrange a b s e ≡ refuse k p
+      forth k p d = rw (false-of inside (λ h. d .0 (inside-is .0 h)), d .1, d .2)
+
+      back : (k p : ℕ) (c : Bool) → inside ≡ c → andThen {B = ℕ × ℕ} (need c 28 0) (λ _. ok (a + s, a + e)) ≡ refuse k p → ¬ SubrangeInside a b s e × (k ≡ 28) × (p ≡ 0)
+      back k p true i h = absurd (ok-is-no-refusal h)
+      back k p false i h = ((λ d. absurd (false≢true (sym i ∙ inside-is .1 d))), cc, cc)
+
+-- ## Substitute
+
+in-limits : (s : Expr) → ((leb (records s) maxRecords && leb (depth s) maxDepth) ≡ true) ↔ InLimits s
+in-limits s = and-iff (leb (records s) maxRecords) (leb (depth s) maxDepth) (leb-is (records s) maxRecords) (leb-is (depth s) maxDepth)
+
+module _ (bs : List ℕ) (x : Name) (rs : List ℕ) (room : ℕ) where
+  -- behind the form of the term, and behind that of the replacement
+  abbrev result : Expr → Expr → Answer (List ℕ)
+  result e t =
+      andThen (need (leb (records (substitute x t e)) maxRecords && leb (depth (substitute x t e)) maxDepth) 27 0) λ _. intoRoom (encode (substitute x t e)) room
+
+  abbrev replaced : Expr → Answer Expr → Answer (List ℕ)
+  replaced e y = andThen (raised y) (λ t. result e t)
+
+  abbrev D : ℕ → ℕ → Type 0
+  D k p = SubstituteDeclined bs x rs room k p
+
+  read-both : (e t : Expr) → decode bs ≡ ok e → decode rs ≡ ok t → substituteBytes bs x rs room ≡ result e t
+  read-both e t f g = rw (f, g)
+
+  forth : (k p : ℕ) → D k p → substituteBytes bs x rs room ≡ refuse k p
+  forth k p (SubstituteDeclined.form r q f) = rw f
+  forth k p (SubstituteDeclined.replacement e r q f g) = rw (f, g)
+  forth k p (SubstituteDeclined.large e t f g h) = read-both e t f g ∙ rw (false-of _ (λ y. h (in-limits (substitute x t e) .0 y)))
+  forth k p (SubstituteDeclined.long e t f g h l) =
+      read-both e t f g ∙ rw (in-limits (substitute x t e) .1 h, lt-leb (length (encode (substitute x t e))) room l)
+
+  behind-limits : (e t : Expr) → decode bs ≡ ok e → decode rs ≡ ok t → (k p : ℕ) (c : Bool)
+      → (leb (records (substitute x t e)) maxRecords && leb (depth (substitute x t e)) maxDepth) ≡ c
+      → andThen (need c 27 0) (λ _. intoRoom (encode (substitute x t e)) room) ≡ refuse k p → D k p
+  behind-limits e t f g k p false i h =
+      at-refusal D h (SubstituteDeclined.large e t f g (λ l. absurd (false≢true (sym i ∙ in-limits (substitute x t e) .1 l))))
+  behind-limits e t f g k p true i h =
+      by-room (λ y. y ≡ refuse k p → D k p) (encode (substitute x t e)) room (λ out. ok out)
+      (λ l z. at-refusal D z (SubstituteDeclined.long e t f g (in-limits (substitute x t e) .0 i) l))
+      (λ l z. absurd (ok-is-no-refusal z))
+      (then-same (intoRoom (encode (substitute x t e)) room) ∙ h)
+
+  behind-term : (e : Expr) → decode bs ≡ ok e → (k p : ℕ) (y : Answer Expr) → decode rs ≡ y → replaced e y ≡ refuse k p → D k p
+  behind-term e f k p (ok t) g h = behind-limits e t f g k p _ refl h
+  behind-term e f k p (refuse q m) g h = at-refusal D h (SubstituteDeclined.replacement e q m f g)
+
+  back : (k p : ℕ) (y : Answer Expr) → decode bs ≡ y → andThen y (λ e. replaced e (decode rs)) ≡ refuse k p → D k p
+  back k p (ok e) f h = behind-term e f k p (decode rs) refl h
+  back k p (refuse q m) f h = at-refusal D h (SubstituteDeclined.form q m f)
+
+  numbers : (k p : ℕ) → D k p → 1 ≤ k
+  numbers k p (SubstituteDeclined.form r q f) = decode-numbers bs f .0
+  numbers k p (SubstituteDeclined.replacement e r q f g) = omega arith
+  numbers k p (SubstituteDeclined.large e t f g h) = omega arith
+  numbers k p (SubstituteDeclined.long e t f g h l) = omega arith
+
+  pub substitute-decided : Decided D (substituteBytes bs x rs room)
+  substitute-decided = decided D (substituteBytes bs x rs room) forth (λ k p. back k p (decode bs) refl) numbers
+
+-- ## Desugar
+
+-- a rule that fails is the refusal of desugaring without limit
+unlimited-refused : (e : Expr) {k p : ℕ} → (mapAnswer (λ r. r .0) (desugar [] e 0 (spent [])) ≡ refuse k p) ↔ (firstFailure (walk [] e 0) ≡ refuse k p)
+unlimited-refused e = (
+  (λ h. check-refused e .0 (sym (seen-answer (seen-at [] [] e 0 refl)) ∙ ap (mapAnswer isTest) h)),
+  (λ h. unmapped isTest _ (seen-answer (seen-at [] [] e 0 refl) ∙ check-refused e .1 h)),
+)
+
+module _ (bs : List ℕ) (n work room : ℕ) where
+  abbrev E : ℕ → ℕ → Type 0
+  E k p = DesugarDeclined bs n work room k p
+
+  read-term : (e : Expr) → Allowed n → workFor n ≤ work → decode bs ≡ ok e → desugarBytes bs n work room ≡ rest e n room
+  read-term e a m f = within-limits bs n work room a m ∙ ap (λ (x : Answer Expr). andThen x (λ e. rest e n room)) f
+
+  walk-refused : (e : Expr) {k p : ℕ} → desugar [] e 0 (left n) ≡ refuse k p → rest e n room ≡ refuse k p
+  walk-refused e h = rw h
+
+  desugar-forth : (k p : ℕ) → E k p → desugarBytes bs n work room ≡ refuse k p
+  desugar-forth k p (DesugarDeclined.allowance h) = not-allowed bs n work room h
+  desugar-forth k p (DesugarDeclined.memory a h) = too-little-memory bs n work room a h
+  desugar-forth k p (DesugarDeclined.form r q a m f) = within-limits bs n work room a m ∙ ap (λ (x : Answer Expr). andThen x (λ e. rest e n room)) f
+  desugar-forth k p (DesugarDeclined.rule e ds r q a m f l d h) =
+      read-term e a m f ∙ walk-refused e (unmapped (λ r. r .0) _ (l .enough n [] d ∙ unlimited-refused e .1 h))
+  desugar-forth k p (DesugarDeclined.beyond e ds a m f l d) = read-term e a m f ∙ walk-refused e (l .short n d)
+  desugar-forth k p (DesugarDeclined.long e c ds a m f u d h) =
+      read-term e a m f ∙ rw (limited [] e 0 c ds u n d, lt-leb (length (encodeCore c)) room h)
+
+  walked : (e : Expr) → Allowed n → workFor n ≤ work → decode bs ≡ ok e → (k p : ℕ) (c : Costs (desugar [] e 0)) → Limit [] e 0 (drawsOf c)
+      → Dec (n < drawn (drawsOf c)) → rest e n room ≡ refuse k p → E k p
+  walked e a m f k p c l (yes q) h = at-refusal E (sym (walk-refused e (l .short n q)) ∙ h) (DesugarDeclined.beyond e (drawsOf c) a m f l q)
+  walked e a m f k p (stops r at ds s g w) l (no q) h =
+      let d : drawn ds ≤ n = omega arith in
+      at-refusal E (sym (walk-refused e (g n d)) ∙ h)
+      (DesugarDeclined.rule e ds r at a m f l d (unlimited-refused e .0 (ap (mapAnswer (λ r. r .0)) (s []))))
+  walked e a m f k p (gives c ds s g w) l (no q) h =
+      let d : drawn ds ≤ n = omega arith in
+      by-room (λ y. y ≡ refuse k p → E k p) (encodeCore c) room (λ out. ok (out, n - (n - drawn ds)))
+      (λ z y. at-refusal E y (DesugarDeclined.long e c ds a m f (s []) d z))
+      (λ z y. absurd (ok-is-no-refusal y))
+      (rw (g n d) at h)
+
+  desugar-back : (k p : ℕ) → desugarBytes bs n work room ≡ refuse k p → E k p
+  desugar-back k p =
+      by-limits (λ y. y ≡ refuse k p → E k p) n work _
+      (λ h y. at-refusal E y (DesugarDeclined.allowance h))
+      (λ a h y. at-refusal E y (DesugarDeclined.memory a h))
+      (λ a m. read a m (decode bs) refl)
+    where
+      read : Allowed n → workFor n ≤ work → (x : Answer Expr) → decode bs ≡ x → andThen x (λ e. rest e n room) ≡ refuse k p → E k p
+      read a m (ok e) f h = walked e a m f k p (desugar-costs [] e 0) (limit-of [] e 0 (desugar-costs [] e 0)) (decLt n _) h
+      read a m (refuse q t) f h = at-refusal E h (DesugarDeclined.form q t a m f)
+
+  desugar-numbers : (k p : ℕ) → E k p → 1 ≤ k
+  desugar-numbers k p (DesugarDeclined.allowance h) = omega arith
+  desugar-numbers k p (DesugarDeclined.memory a h) = omega arith
+  desugar-numbers k p (DesugarDeclined.form r q a m f) = decode-numbers bs f .0
+  desugar-numbers k p (DesugarDeclined.rule e ds r q a m f l d h) = failure-named e h
+  desugar-numbers k p (DesugarDeclined.beyond e ds a m f l d) = omega arith
+  desugar-numbers k p (DesugarDeclined.long e c ds a m f u d h) = omega arith
+
+  pub desugar-decided : Decided E (desugarBytes bs n work room)
+  desugar-decided = decided E (desugarBytes bs n work room) desugar-forth desugar-back desugar-numbers

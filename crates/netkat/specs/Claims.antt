@@ -1,0 +1,96 @@
+-- What the theorems claim of points and of whole terms (document 01, "The words of demand 3"; the theorems stand in
+-- proofs/Theorems.antt).
+use mathlib.Core.{Path._≡_, Bool.true, List.List, List.[], List._∷_, List.List·Memᴰ}
+use Prim.Native.Nat.{ℕ, _+_, _≤_, _<_}
+use lib.{ListN.length}
+use Rattle.expr.specs.{Answers.Answer, Answers.ok, Answers.refuse, Terms.Op1, Terms.Op2, Terms.Core, Terms.Name, Terms.Expr, Terms.Plain, Terms.Unary, Terms.Binary, Terms.TestNegation, Terms.IfThenElse, Terms.Let, Terms.LetBitRange, Terms.Var, Terms.Ranged, Terms.atomKind, Terms.op1Kind, Terms.op2Kind, Terms.records, Form.decode, Form.encodeCore, Form.rangedRecord}
+use Rattle.desugar.specs.{Bindings.variable, Bindings.range, Meter.spent, Meter.drawn, Meter.overdrawn, Desugar.desugar, Desugar.desugarBytes, Desugar.maxAllowance, Desugar.workFor, Packets.oneStep, Claims.Limit}
+use Rattle.netkat.specs.{Points.Scope, Points.Point, Points.walk, Check.RulesHold}
+
+-- ## Points
+
+-- the subterm e′ with the binders sc′ around it begins at the record at′ of e, which has sc around it and begins at the record at: a case
+-- for each way down
+pub data Inside (sc′ : Scope) (e′ : Expr) (at′ : ℕ) : Scope → Expr → ℕ → Type 0 where
+  here : Inside sc′ e′ at′ sc′ e′ at′
+  unary : {sc : Scope} {o : Op1} {e : Expr} {at : ℕ} → Inside sc′ e′ at′ sc e (at + 1) → Inside sc′ e′ at′ sc (Unary o e) at
+  first : {sc : Scope} {o : Op2} {a b : Expr} {at : ℕ} → Inside sc′ e′ at′ sc a (at + 1) → Inside sc′ e′ at′ sc (Binary o a b) at
+  second : {sc : Scope} {o : Op2} {a b : Expr} {at : ℕ} → Inside sc′ e′ at′ sc b (at + 1 + records a) → Inside sc′ e′ at′ sc (Binary o a b) at
+  negated : {sc : Scope} {e : Expr} {at : ℕ} → Inside sc′ e′ at′ sc e (at + 1) → Inside sc′ e′ at′ sc (TestNegation e) at
+  condition : {sc : Scope} {c t e : Expr} {at : ℕ} → Inside sc′ e′ at′ sc c (at + 1) → Inside sc′ e′ at′ sc (IfThenElse c t e) at
+  thenBranch : {sc : Scope} {c t e : Expr} {at : ℕ} → Inside sc′ e′ at′ sc t (at + 1 + records c) → Inside sc′ e′ at′ sc (IfThenElse c t e) at
+  elseBranch : {sc : Scope} {c t e : Expr} {at : ℕ} → Inside sc′ e′ at′ sc e (at + 1 + records c + records t) → Inside sc′ e′ at′ sc (IfThenElse c t e) at
+  definition : {sc : Scope} {x : Name} {d b : Expr} {at : ℕ} → Inside sc′ e′ at′ sc d (at + 1) → Inside sc′ e′ at′ sc (Let x d b) at
+  body : {sc : Scope} {x : Name} {d b : Expr} {at : ℕ}
+      → Inside sc′ e′ at′ (variable x (d, at + 1) ∷ sc) b (at + 1 + records d) → Inside sc′ e′ at′ sc (Let x d b) at
+  rangeBody : {sc : Scope} {x : Name} {s t : ℕ} {b : Expr} {at : ℕ}
+      → Inside sc′ e′ at′ (range x s t ∷ sc) b (at + 1) → Inside sc′ e′ at′ sc (LetBitRange x s t b) at
+
+-- one of the points has the place n
+abbrev pub PointAt : List Point → ℕ → Type 0
+PointAt ps n = (p : Point) × List·Memᴰ p ps × (p .place ≡ n)
+
+-- "Kinds": the kind of the record that a term begins with
+abbrev pub kindOf : Expr → ℕ
+kindOf (Plain a) = atomKind a
+kindOf (Unary o e) = op1Kind o
+kindOf (Binary o a b) = op2Kind o
+kindOf (TestNegation e) = 16
+kindOf (IfThenElse c t e) = 17
+kindOf (Let x d b) = 18
+kindOf (LetBitRange x s e b) = 19
+kindOf (Var x) = 20
+kindOf (Ranged w u) = (rangedRecord w u) .kind
+
+-- "use only the one-step kinds": each of these records has such a kind
+abbrev pub OneStepKinds : List Point → Type 0
+OneStepKinds ps = (p : Point) → List·Memᴰ p ps → oneStep (kindOf (p .term)) ≡ true
+
+-- ## The whole term
+
+-- "the form is good and rules 11 to 23 hold at every record"
+pub record Good (bs : List ℕ) (e : Expr) : Type 0 where
+  pub form : decode bs ≡ ok e
+  pub rules : RulesHold (walk [] e 0)
+
+-- "9 allowance outside 1 to 65,535": inside
+abbrev pub Allowed : ℕ → Type 0
+Allowed n = (1 ≤ n) × (n ≤ maxAllowance)
+
+-- "the core made without limit", and the draws made for it in walking order, each with its place
+abbrev pub Unlimited : Expr → Core → List (ℕ × ℕ) → Type 0
+Unlimited e c ds = desugar [] e 0 (spent []) ≡ ok (c, spent ds)
+
+-- "Desugar succeeds or answers 9, 10, 24 or 26, each only for its cause above": on a term whose core without limit is c with the draws ds
+pub data Outcome (c : Core) (ds : List (ℕ × ℕ)) (n work room : ℕ) : Answer (List ℕ × ℕ) → Type 0 where
+  done : Allowed n → workFor n ≤ work → drawn ds ≤ n → length (encodeCore c) ≤ room → Outcome c ds n work room (ok (encodeCore c, drawn ds))
+  allowance : ¬ Allowed n → Outcome c ds n work room (refuse 9 0)
+  memory : work < workFor n → Outcome c ds n work room (refuse 10 0)
+  beyond : n < drawn ds → Outcome c ds n work room (refuse 24 (overdrawn n ds))
+  long : room < length (encodeCore c) → Outcome c ds n work room (refuse 26 0)
+
+-- where Check refuses by r at p, Desugar answers 9 or 10 for its cause, the same refusal, or 24 where the allowance is spent before the
+-- rule that fails
+pub data Refusal (bs : List ℕ) (r p n work : ℕ) : Answer (List ℕ × ℕ) → Type 0 where
+  allowance : ¬ Allowed n → Refusal bs r p n work (refuse 9 0)
+  memory : work < workFor n → Refusal bs r p n work (refuse 10 0)
+  same : Refusal bs r p n work (refuse r p)
+  beyond : (e : Expr) (ds : List (ℕ × ℕ)) → decode bs ≡ ok e → Limit [] e 0 ds → n < drawn ds → Refusal bs r p n work (refuse 24 (overdrawn n ds))
+
+-- a term of good form and rules has a core without limit, and Desugar's answer is one of the five
+pub record Desugars (bs : List ℕ) (e : Expr) : Type 0 where
+  pub core : Core
+  pub draws : List (ℕ × ℕ)
+  pub unlimited : Unlimited e core draws
+  pub outcome : (n work room : ℕ) → Outcome core draws n work room (desugarBytes bs n work room)
+
+-- where Desugar gives the bytes out and the total m: the term has good form and rules, "and the bytes Desugar wrote are those of the core
+-- made without limit", with the sum of its draws
+pub record Desugared (bs : List ℕ) (out : List ℕ) (m : ℕ) : Type 0 where
+  pub term : Expr
+  pub good : Good bs term
+  pub core : Core
+  pub draws : List (ℕ × ℕ)
+  pub unlimited : Unlimited term core draws
+  pub bytes : out ≡ encodeCore core
+  pub total : m ≡ drawn draws

@@ -1,0 +1,152 @@
+-- The three demands, each as one record. Their words stand in quotation marks; proofs/Theorems.antt proves each.
+use mathlib.Core.{Path._≡_, Logic._↔_, List.List, List.[], List.List·Memᴰ}
+use Prim.Native.Nat.{ℕ, _+_, _^_, _≤_, _<_}
+use lib.{ListN.length, ListN.take}
+use Rattle.literals.specs.{Bits.bit}
+use Rattle.expr.specs.{Answers.Answer, Answers.ok, Answers.refuse, Answers.mapAnswer, Terms.Core, Terms.Name, Terms.Expr, Terms.Where, Terms.records, Terms.depth, Form.decode, Form.encode, Form.encodeCore, Form.maxRecords, Form.maxDepth, Form.Within, Operations.fragmentBytes, Operations.numFields, Operations.fieldsBytes, Operations.substitute, Operations.substituteBytes}
+use Rattle.desugar.specs.{Bindings.computeSubrange, Meter.drawn, Meter.overdrawn, Desugar.desugarBytes, Desugar.workFor, Packets.Others, Packets.Packet, Packets.coreMeans, Claims.Limit, Claims.Forms}
+use Rattle.netkat.specs.{Points.Point, Points.walk, Points.definitions, Points.desugarAt, Points.meansAt, Check.RulesHold, Check.firstFailure, Check.checkBytes, Entry.hosted, Entry.Hosts, Claims.OneStepKinds, Claims.Good, Claims.Allowed, Claims.Unlimited, Claims.Outcome, Claims.Desugared}
+use Rattle.netkat.specs.declared.Answer.{Answer as HostAnswer}
+
+-- ## Calls
+
+-- a call of an exported function, with the bytes and numbers that it is given; of work memory, its length
+pub data Call : Type 0 where
+  Check TestFragment FieldCount : (term : List ℕ) → Call
+  Desugar : (term : List ℕ) (allowance work : ℕ) → Call
+  Substitute : (term : List ℕ) (name : Name) (replacement : List ℕ) → Call
+  Subrange : (aliasStart aliasEnd subStart subEnd : ℕ) → Call
+
+-- the contract of each exported function (src/lib.rt, src/operations.rt): r is its answer, out and out′ its answer buffer before and after
+-- the call. A function without one leaves all bytes alone
+abbrev pub Answers : Call → (out out′ : List ℕ) → HostAnswer → Type 0
+Answers (Check bs) out out′ r = (r ≡ hosted (mapAnswer (λ b. (bit b, 0)) (checkBytes bs))) × (out′ ≡ out)
+Answers (TestFragment bs) out out′ r = (r ≡ hosted (mapAnswer (λ b. (bit b, 0)) (fragmentBytes bs))) × (out′ ≡ out)
+Answers (FieldCount bs) out out′ r = (r ≡ hosted (mapAnswer (λ n. (n, 0)) (fieldsBytes bs))) × (out′ ≡ out)
+Answers (Desugar bs n work) out out′ r = Hosts (desugarBytes bs n work (length out)) out out′ r
+Answers (Substitute bs x rs) out out′ r = Hosts (mapAnswer (λ out. (out, 0)) (substituteBytes bs x rs (length out))) out out′ r
+Answers (Subrange a b s e) out out′ r = (r ≡ hosted (computeSubrange a b s e)) × (out′ ≡ out)
+
+-- ## Demand 1: what is refused
+
+-- Check: "form, then the rules 11 to 23", the first that fails in walking order
+pub data CheckDeclined (bs : List ℕ) : (number place : ℕ) → Type 0 where
+  form : (r p : ℕ) → decode bs ≡ refuse r p → CheckDeclined bs r p
+  rule : (e : Expr) (r p : ℕ) → decode bs ≡ ok e → firstFailure (walk [] e 0) ≡ refuse r p → CheckDeclined bs r p
+
+-- Field count: "form, then 25 at the first Assign or Test of field 4,294,967,295"
+pub data FieldsDeclined (bs : List ℕ) : (number place : ℕ) → Type 0 where
+  form : (r p : ℕ) → decode bs ≡ refuse r p → FieldsDeclined bs r p
+  field : (e : Expr) (r p : ℕ) → decode bs ≡ ok e → numFields e 0 ≡ refuse r p → FieldsDeclined bs r p
+
+-- Desugar: "9 allowance ..; 10 work memory ..; form; rules and 24 in walking order; 26 encoded core longer than the answer buffer"
+pub data DesugarDeclined (bs : List ℕ) (n work room : ℕ) : (number place : ℕ) → Type 0 where
+  allowance : ¬ Allowed n → DesugarDeclined bs n work room 9 0
+  memory : Allowed n → work < workFor n → DesugarDeclined bs n work room 10 0
+  form : (r p : ℕ) → Allowed n → workFor n ≤ work → decode bs ≡ refuse r p → DesugarDeclined bs n work room r p
+  -- the first rule that fails, where the allowance covers the draws before it
+  rule : (e : Expr) (ds : List (ℕ × ℕ)) (r p : ℕ) → Allowed n → workFor n ≤ work → decode bs ≡ ok e → Limit [] e 0 ds → drawn ds ≤ n
+      → firstFailure (walk [] e 0) ≡ refuse r p → DesugarDeclined bs n work room r p
+  -- 24, at the first draw beyond the allowance
+  beyond : (e : Expr) (ds : List (ℕ × ℕ)) → Allowed n → workFor n ≤ work → decode bs ≡ ok e → Limit [] e 0 ds → n < drawn ds
+      → DesugarDeclined bs n work room 24 (overdrawn n ds)
+  long : (e : Expr) (c : Core) (ds : List (ℕ × ℕ)) → Allowed n → workFor n ≤ work → decode bs ≡ ok e → Unlimited e c ds → drawn ds ≤ n
+      → room < length (encodeCore c) → DesugarDeclined bs n work room 26 0
+
+-- a term within the limits on records and levels
+abbrev pub InLimits : Expr → Type 0
+InLimits e = (records e ≤ maxRecords) × (depth e ≤ maxDepth)
+
+-- Substitute: "form of the term; form of the replacement as 31 to 38; 27 result over 4,096 records or depth 256; 26 as above"
+pub data SubstituteDeclined (bs : List ℕ) (x : Name) (rs : List ℕ) (room : ℕ) : (number place : ℕ) → Type 0 where
+  form : (r p : ℕ) → decode bs ≡ refuse r p → SubstituteDeclined bs x rs room r p
+  replacement : (e : Expr) (r p : ℕ) → decode bs ≡ ok e → decode rs ≡ refuse r p → SubstituteDeclined bs x rs room (30 + r) p
+  large : (e t : Expr) → decode bs ≡ ok e → decode rs ≡ ok t → ¬ InLimits (substitute x t e) → SubstituteDeclined bs x rs room 27 0
+  long : (e t : Expr) → decode bs ≡ ok e → decode rs ≡ ok t → InLimits (substitute x t e) → room < length (encode (substitute x t e))
+      → SubstituteDeclined bs x rs room 26 0
+
+-- `compute_subrange` gives fields: no `checked_add` overflows, and they lie inside the alias
+pub record SubrangeInside (aliasStart aliasEnd subStart subEnd : ℕ) : Type 0 where
+  pub start : aliasStart + subStart < 2 ^ 32
+  pub end : aliasStart + subEnd < 2 ^ 32
+  pub order : subStart ≤ subEnd
+  pub inside : aliasStart + subEnd ≤ aliasEnd
+
+-- "each by its number and place in document 01": a call with an answer buffer of room bytes is to be refused by a number at a place
+abbrev pub Declined : Call → (room number place : ℕ) → Type 0
+Declined (Check bs) room r p = CheckDeclined bs r p
+Declined (TestFragment bs) room r p = decode bs ≡ refuse r p
+Declined (FieldCount bs) room r p = FieldsDeclined bs r p
+Declined (Desugar bs n work) room r p = DesugarDeclined bs n work room r p
+Declined (Substitute bs x rs) room r p = SubstituteDeclined bs x rs room r p
+Declined (Subrange a b s e) room r p = ¬ SubrangeInside a b s e × (r ≡ 28) × (p ≡ 0)
+
+-- of an answer r, and the answer buffer before and after the call; declined says by which number and place the call is to be refused
+pub record Demand1 (declined : (number place : ℕ) → Type 0) (out out′ : List ℕ) (r : HostAnswer) : Type 0 where
+  -- "are refused, each by its number and place": exactly these, and no number is 0
+  pub refused : (k p : ℕ) → declined k p ↔ ((1 ≤ k) × (r ≡ hosted (refuse k p)))
+  -- "with the answer buffer untouched"
+  pub untouched : ¬ (r .number ≡ 0) → out′ ≡ out
+  -- "All other input is accepted.": success is number 0
+  pub accepted : (r .number ≡ 0) ↔ ((k p : ℕ) → ¬ declined k p)
+
+-- ## Demand 2: trees and forms
+
+-- "with an allowance and buffers that cover it": a term whose draws are ds, with an allowance n and lengths of work memory and buffer
+pub record Covers (e : Expr) (ds : List (ℕ × ℕ)) (n work room : ℕ) : Type 0 where
+  pub allowed : Allowed n
+  pub memory : workFor n ≤ work
+  pub allowance : drawn ds ≤ n
+  pub buffer : (c : Core) → desugarAt [] e 0 ≡ ok c → length (encodeCore c) ≤ room
+
+pub record Demand2 (others : Others) : Type 0 where
+  -- "For every term within document 01's limits, .. the core is the tree that `desugar` gives, and a refusal is of the kind it gives.": the
+  -- answer on its bytes is that of desugaring without limit, with the sum of the draws
+  pub tree : (e : Expr) → Within e → (ds : List (ℕ × ℕ)) × Limit [] e 0 ds
+      × ((n work room : ℕ) → Covers e ds n work room → desugarBytes (encode e) n work room ≡ mapAnswer (λ c. (encodeCore c, drawn ds)) (desugarAt [] e 0))
+  -- "Each literal, prefix, wildcard and range form is proved to hold of, or set, exactly the field values that document 01 defines"
+  pub forms : (w : Where) (s e at : ℕ) → Forms others w s e at
+
+-- ## Demand 3: at any point, and of the whole term
+
+-- at a point where the definitions around it pass
+pub record AtPassing (others : Others) (p : Point) : Type 0 where
+  -- "The check's rules 11 to 23 .. hold at that point and at every point below it exactly when desugaring the subterm there, with no limit
+  -- on allowance or buffers, is not refused."
+  pub exactly : RulesHold (walk (p .scope) (p .term) (p .place)) ↔ ((c : Core) × (desugarAt (p .scope) (p .term) (p .place) ≡ ok c))
+  -- "Where it is not refused, and the subterm and those definitions use only the one-step kinds, then for every two packets p and q the
+  -- subterm's core relates p to q exactly when its own written meaning there does."
+  pub means : OneStepKinds (walk (p .scope) (p .term) (p .place)) → OneStepKinds (definitions (p .scope))
+      → (c : Core) → desugarAt (p .scope) (p .term) (p .place) ≡ ok c
+      → (a b : Packet) → coreMeans others c a b ↔ meansAt others (p .scope) (p .term) a b
+
+-- "where Check succeeds, Desugar succeeds or answers 9, 10, 24 or 26, each only for its cause": the answer r on a term of good form and rules
+pub record OnGood (bs : List ℕ) (n work : ℕ) (out out′ : List ℕ) (r : HostAnswer) : Type 0 where
+  pub term : Expr
+  pub good : Good bs term
+  pub core : Core
+  pub draws : List (ℕ × ℕ)
+  pub unlimited : Unlimited term core draws
+  pub answer : Answer (List ℕ × ℕ)
+  pub outcome : Outcome core draws n work (length out) answer
+  pub hosts : Hosts answer out out′ r
+
+-- what Check answered on the bytes and what Desugar answered, with its buffer before and after the call
+pub record WholeTerm (bs : List ℕ) (n work : ℕ) (out out′ : List ℕ) (checked desugared : HostAnswer) : Type 0 where
+  -- "Check .. succeeds exactly where the form is good and rules 11 to 23 hold at every record"
+  pub check : (checked .number ≡ 0) ↔ ((e : Expr) × Good bs e)
+  -- "where Check succeeds, Desugar succeeds or answers 9, 10, 24 or 26, each only for its cause above"
+  pub answers : checked .number ≡ 0 → OnGood bs n work out out′ desugared
+  -- "where Desugar succeeds, Check refuses by neither form nor rule"
+  pub agrees : desugared .number ≡ 0 → checked .number ≡ 0
+  -- "and the bytes Desugar wrote are those of the core made without limit": the front of the buffer
+  pub bytes : desugared .number ≡ 0 → Desugared bs (take (desugared .first) out′) (desugared .second)
+
+pub record Demand3 (others : Others) : Type 0 where
+  -- "Take any term of good form, any point of it, and the lets and aliases around that point, where the definitions of those lets pass."
+  pub points : (bs : List ℕ) (t : Expr) → decode bs ≡ ok t → (p : Point) → List·Memᴰ p (walk [] t 0) → RulesHold (definitions (p .scope))
+      → AtPassing others p
+  -- "For the whole term the claim is also made, as document 01 puts it, of what Check and Desugar answer, whatever the allowance and the
+  -- buffers."
+  pub whole : (bs : List ℕ) (n work : ℕ) (out out′ : List ℕ) (checked desugared : HostAnswer)
+      → Answers (Check bs) [] [] checked → Answers (Desugar bs n work) out out′ desugared → WholeTerm bs n work out out′ checked desugared
