@@ -13,8 +13,8 @@ use borrow.Author.Tests.{lt-leb, lt-ltb, ltb-true}
 use Rattle.literals.proofs.Logic.{and-iff, false-of, leb-is}
 use Rattle.expr.specs.Answers.{Answer, andThen, mapAnswer, need, ok, refuse}
 use Rattle.expr.specs.Form.{decode, encode, encodeCore, maxDepth, maxRecords}
-use Rattle.expr.specs.Operations.{atomFields, fieldsBytes, fragmentBytes, intoRoom, isTestFragment, numFields, raised, substitute, substituteBytes}
-use Rattle.expr.specs.Terms.{Alias, Binary, Core, Direct, Expr, IfThenElse, Let, LetBitRange, Name, Plain, Ranged, TestNegation, Unary, Var, depth, records}
+use Rattle.expr.specs.Operations.{fieldsBytes, fragmentBytes, intoRoom, isTestFragment, numFields, raised, substitute, substituteBytes}
+use Rattle.expr.specs.Terms.{Core, Expr, Name, depth, records}
 use Rattle.expr.proofs.Refusals.{decode-numbers}
 use Rattle.desugar.specs.Bindings.{computeSubrange}
 use Rattle.desugar.specs.Claims.{Limit}
@@ -27,7 +27,8 @@ use Rattle.netkat.specs.Claims.{Allowed, Unlimited}
 use Rattle.netkat.specs.Demands.{CheckDeclined, DesugarDeclined, FieldsDeclined, InLimits, SubrangeInside, SubstituteDeclined}
 use Rattle.netkat.specs.Points.{walk}
 use Rattle.netkat.proofs.AtPoint.{refusal-of, seen-answer, seen-at}
-use Rattle.netkat.proofs.Numbers.{Numbered, failure-numbers, numbered-map, numbered-need, numbered-then}
+use Rattle.netkat.proofs.HighestField.{first-highest, first-refused, refused-at-first}
+use Rattle.netkat.proofs.Numbers.{Numbered, failure-numbers}
 use Rattle.netkat.proofs.Whole.{by-limits, by-room, not-allowed, rest, too-little-memory, unmapped, within-limits}
 
 -- an answer is refused exactly for these causes, and no number is 0
@@ -100,44 +101,23 @@ check-decided bs = decided (CheckDeclined bs) (checkBytes bs) forth (λ k p. bac
 
 -- ## Field count
 
-abbrev TwentyFive : {A : Type 0} → Answer A → Type 0
-TwentyFive x = Numbered 25 25 x
-
--- it declines by 25 alone
-fields-numbers : (e : Expr) (at : ℕ) → TwentyFive (numFields e at)
-fields-numbers (Plain a) at =
-    numbered-then 25 25 (need (ltb (atomFields a) (2 ^ 32)) 25 at) _ (numbered-need 25 25 (ltb (atomFields a) (2 ^ 32)) 25 at (omega arith) (omega arith)) (λ _. tt)
-fields-numbers (Unary o e) at = fields-numbers e (at + 1)
-fields-numbers (Binary o a b) at =
-    numbered-then 25 25 (numFields a (at + 1)) _ (fields-numbers a (at + 1)) (λ _.
-    numbered-then 25 25 (numFields b (at + 1 + records a)) _ (fields-numbers b (at + 1 + records a)) (λ _. tt))
-fields-numbers (TestNegation e) at = fields-numbers e (at + 1)
-fields-numbers (IfThenElse c t e) at =
-    numbered-then 25 25 (numFields c (at + 1)) _ (fields-numbers c (at + 1)) (λ _.
-    numbered-then 25 25 (numFields t (at + 1 + records c)) _ (fields-numbers t (at + 1 + records c)) (λ _.
-    numbered-then 25 25 (numFields e (at + 1 + records c + records t)) _ (fields-numbers e (at + 1 + records c + records t)) (λ _. tt)))
-fields-numbers (Let x d b) at =
-    numbered-then 25 25 (numFields d (at + 1)) _ (fields-numbers d (at + 1)) (λ _.
-    numbered-then 25 25 (numFields b (at + 1 + records d)) _ (fields-numbers b (at + 1 + records d)) (λ _. tt))
-fields-numbers (LetBitRange x s e b) at = numbered-map 25 25 _ (numFields b (at + 1)) (fields-numbers b (at + 1))
-fields-numbers (Var x) at = tt
-fields-numbers (Ranged (Direct s e) u) at = tt
-fields-numbers (Ranged (Alias x) u) at = tt
-
 pub fields-decided : (bs : List ℕ) → Decided (FieldsDeclined bs) (fieldsBytes bs)
 fields-decided bs = decided (FieldsDeclined bs) (fieldsBytes bs) forth (λ k p. back k p (decode bs) refl) numbers
   where
     forth : (k p : ℕ) → FieldsDeclined bs k p → fieldsBytes bs ≡ refuse k p
     forth k p (FieldsDeclined.form r q f) = ap (λ (x : Answer Expr). andThen x (λ e. numFields e 0)) f
-    forth k p (FieldsDeclined.field e r q f h) = ap (λ (x : Answer Expr). andThen x (λ e. numFields e 0)) f ∙ h
+    forth k p (FieldsDeclined.field e q f m h l) =
+        ap (λ (x : Answer Expr). andThen x (λ e. numFields e 0)) f ∙ refused-at-first (first-highest [] e 0) q m h l
 
     back : (k p : ℕ) (x : Answer Expr) → decode bs ≡ x → andThen x (λ e. numFields e 0) ≡ refuse k p → FieldsDeclined bs k p
-    back k p (ok e) f h = FieldsDeclined.field e k p f h
+    back k p (ok e) f h =
+        let q = first-refused (first-highest [] e 0) h in
+        subst (λ i. FieldsDeclined bs i p) (q .number) (subst (λ i. FieldsDeclined bs 25 i) (q .place) (FieldsDeclined.field e (q .point) f (q .member) (q .highest) (q .least)))
     back k p (refuse q m) f h = FieldsDeclined.form k p (f ∙ same-refusal h)
 
     numbers : (k p : ℕ) → FieldsDeclined bs k p → 1 ≤ k
     numbers k p (FieldsDeclined.form r q f) = decode-numbers bs f .0
-    numbers k p (FieldsDeclined.field e r q f h) = let n = subst (Numbered 25 25) h (fields-numbers e 0) in omega (arith, n .0)
+    numbers k p (FieldsDeclined.field e q f m h l) = omega arith
 
 -- ## Subrange
 

@@ -44,7 +44,7 @@ own-point sc (Var x) at = List·Memᴰ·head refl
 own-point sc (Ranged w u) at = List·Memᴰ·head refl
 
 -- a point is in one of two parts of the walk
-by-part : {p : Point} {G : Type 0} (ps qs : List Point) → List·Memᴰ p (ps ++ qs) → (List·Memᴰ p ps → G) → (List·Memᴰ p qs → G) → G
+pub by-part : {p : Point} {G : Type 0} (ps qs : List Point) → List·Memᴰ p (ps ++ qs) → (List·Memᴰ p ps → G) → (List·Memᴰ p qs → G) → G
 by-part {p} {G} ps qs m f g = pick (List·Memᴰ·append-cases ps m)
   where
     pick : List·Memᴰ p ps ⊎ List·Memᴰ p qs → G

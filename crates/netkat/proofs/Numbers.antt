@@ -24,15 +24,15 @@ Numbered m n (ok a) = Unit {0}
 Numbered m n (refuse r at) = (m ≤ r) × (r ≤ n)
 
 module _ (m n : ℕ) where
-  pub numbered-then : {A B : Type 0} (x : Answer A) (f : A → Answer B) → Numbered m n x → ((a : A) → Numbered m n (f a)) → Numbered m n (andThen x f)
+  numbered-then : {A B : Type 0} (x : Answer A) (f : A → Answer B) → Numbered m n x → ((a : A) → Numbered m n (f a)) → Numbered m n (andThen x f)
   numbered-then (ok a) f h k = k a
   numbered-then (refuse r at) f h k = h
 
-  pub numbered-map : {A B : Type 0} (f : A → B) (x : Answer A) → Numbered m n x → Numbered m n (mapAnswer f x)
+  numbered-map : {A B : Type 0} (f : A → B) (x : Answer A) → Numbered m n x → Numbered m n (mapAnswer f x)
   numbered-map f (ok a) h = tt
   numbered-map f (refuse r at) h = h
 
-  pub numbered-need : (b : Bool) (r at : ℕ) → m ≤ r → r ≤ n → Numbered m n (need b r at)
+  numbered-need : (b : Bool) (r at : ℕ) → m ≤ r → r ≤ n → Numbered m n (need b r at)
   numbered-need true r at h k = tt
   numbered-need false r at h k = (h, k)
 

@@ -1,9 +1,9 @@
 -- What the theorems claim of points and of whole terms (document 01, "The words of demand 3"; the theorems stand in
 -- proofs/Theorems.antt).
 use mathlib.Core.{Path._≡_, Bool.true, List.List, List.[], List._∷_, List.List·Memᴰ}
-use Prim.Native.Nat.{ℕ, _+_, _≤_, _<_}
+use Prim.Native.Nat.{ℕ, _+_, _^_, _≤_, _<_}
 use lib.{ListN.length}
-use Rattle.expr.specs.{Answers.Answer, Answers.ok, Answers.refuse, Terms.Op1, Terms.Op2, Terms.Core, Terms.Name, Terms.Expr, Terms.Plain, Terms.Unary, Terms.Binary, Terms.TestNegation, Terms.IfThenElse, Terms.Let, Terms.LetBitRange, Terms.Var, Terms.Ranged, Terms.atomKind, Terms.op1Kind, Terms.op2Kind, Terms.records, Form.decode, Form.encodeCore, Form.rangedRecord}
+use Rattle.expr.specs.{Answers.Answer, Answers.ok, Answers.refuse, Terms.Op1, Terms.Op2, Terms.Core, Terms.Name, Terms.Expr, Terms.Plain, Terms.Unary, Terms.Binary, Terms.TestNegation, Terms.IfThenElse, Terms.Let, Terms.LetBitRange, Terms.Var, Terms.Ranged, Terms.atomKind, Terms.op1Kind, Terms.op2Kind, Terms.records, Form.decode, Form.encodeCore, Form.rangedRecord, Operations.atomFields}
 use Rattle.desugar.specs.{Bindings.variable, Bindings.range, Meter.spent, Meter.drawn, Meter.overdrawn, Desugar.desugar, Desugar.desugarBytes, Desugar.maxAllowance, Desugar.workFor, Packets.oneStep, Claims.Limit}
 use Rattle.netkat.specs.{Points.Scope, Points.Point, Points.walk, Check.RulesHold}
 
@@ -29,6 +29,18 @@ pub data Inside (sc′ : Scope) (e′ : Expr) (at′ : ℕ) : Scope → Expr →
 -- one of the points has the place n
 abbrev pub PointAt : List Point → ℕ → Type 0
 PointAt ps n = (p : Point) × List·Memᴰ p ps × (p .place ≡ n)
+
+-- an Assign or Test of field 4,294,967,295, the highest that 32 bits hold
+abbrev pub HighestField : Expr → Type 0
+HighestField (Plain a) = 2 ^ 32 ≤ atomFields a
+HighestField (Unary o e) = ⊥
+HighestField (Binary o a b) = ⊥
+HighestField (TestNegation e) = ⊥
+HighestField (IfThenElse c t e) = ⊥
+HighestField (Let x d b) = ⊥
+HighestField (LetBitRange x s e b) = ⊥
+HighestField (Var x) = ⊥
+HighestField (Ranged w u) = ⊥
 
 -- "Kinds": the kind of the record that a term begins with
 abbrev pub kindOf : Expr → ℕ

@@ -3,9 +3,9 @@ use mathlib.Core.{Path._≡_, Logic._↔_, List.List, List.[], List.List·Memᴰ
 use Prim.Native.Nat.{ℕ, _+_, _^_, _≤_, _<_}
 use lib.{ListN.length, ListN.take}
 use Rattle.literals.specs.{Bits.bit}
-use Rattle.expr.specs.{Answers.Answer, Answers.ok, Answers.refuse, Answers.mapAnswer, Terms.Core, Terms.Name, Terms.Expr, Terms.Where, Terms.records, Terms.depth, Form.decode, Form.encode, Form.encodeCore, Form.maxRecords, Form.maxDepth, Form.Within, Operations.fragmentBytes, Operations.numFields, Operations.fieldsBytes, Operations.substitute, Operations.substituteBytes}
+use Rattle.expr.specs.{Answers.Answer, Answers.ok, Answers.refuse, Answers.mapAnswer, Terms.Core, Terms.Name, Terms.Expr, Terms.Where, Terms.records, Terms.depth, Form.decode, Form.encode, Form.encodeCore, Form.maxRecords, Form.maxDepth, Form.Within, Operations.fragmentBytes, Operations.fieldsBytes, Operations.substitute, Operations.substituteBytes}
 use Rattle.desugar.specs.{Bindings.computeSubrange, Meter.drawn, Meter.overdrawn, Desugar.desugarBytes, Desugar.workFor, Packets.Others, Packets.Packet, Packets.coreMeans, Claims.Limit, Claims.Forms}
-use Rattle.netkat.specs.{Points.Point, Points.walk, Points.definitions, Points.desugarAt, Points.meansAt, Check.RulesHold, Check.firstFailure, Check.checkBytes, Entry.hosted, Entry.Hosts, Claims.OneStepKinds, Claims.Good, Claims.Allowed, Claims.Unlimited, Claims.Outcome, Claims.Desugared}
+use Rattle.netkat.specs.{Points.Point, Points.walk, Points.definitions, Points.desugarAt, Points.meansAt, Check.RulesHold, Check.firstFailure, Check.checkBytes, Entry.hosted, Entry.Hosts, Claims.HighestField, Claims.OneStepKinds, Claims.Good, Claims.Allowed, Claims.Unlimited, Claims.Outcome, Claims.Desugared}
 use Rattle.netkat.specs.declared.Answer.{Answer as HostAnswer}
 
 -- ## Calls
@@ -17,8 +17,8 @@ pub data Call : Type 0 where
   Substitute : (term : List ℕ) (name : Name) (replacement : List ℕ) → Call
   Subrange : (aliasStart aliasEnd subStart subEnd : ℕ) → Call
 
--- the contract of each exported function (src/lib.rt, src/operations.rt): r is its answer, out and out′ its answer buffer before and after
--- the call. A function without one leaves all bytes alone
+-- the contract of each exported function, as its `ensures` has it (src/lib.rt, src/operations.rt): r is its answer, out and out′ its answer
+-- buffer before and after the call. A function without one is lent nothing that it could write
 abbrev pub Answers : Call → (out out′ : List ℕ) → HostAnswer → Type 0
 Answers (Check bs) out out′ r = (r ≡ hosted (mapAnswer (λ b. (bit b, 0)) (checkBytes bs))) × (out′ ≡ out)
 Answers (TestFragment bs) out out′ r = (r ≡ hosted (mapAnswer (λ b. (bit b, 0)) (fragmentBytes bs))) × (out′ ≡ out)
@@ -37,7 +37,8 @@ pub data CheckDeclined (bs : List ℕ) : (number place : ℕ) → Type 0 where
 -- Field count: "form, then 25 at the first Assign or Test of field 4,294,967,295"
 pub data FieldsDeclined (bs : List ℕ) : (number place : ℕ) → Type 0 where
   form : (r p : ℕ) → decode bs ≡ refuse r p → FieldsDeclined bs r p
-  field : (e : Expr) (r p : ℕ) → decode bs ≡ ok e → numFields e 0 ≡ refuse r p → FieldsDeclined bs r p
+  field : (e : Expr) (p : Point) → decode bs ≡ ok e → List·Memᴰ p (walk [] e 0) → HighestField (p .term)
+      → ((q : Point) → List·Memᴰ q (walk [] e 0) → HighestField (q .term) → p .place ≤ q .place) → FieldsDeclined bs 25 (p .place)
 
 -- Desugar: "9 allowance ..; 10 work memory ..; form; rules and 24 in walking order; 26 encoded core longer than the answer buffer"
 pub data DesugarDeclined (bs : List ℕ) (n work room : ℕ) : (number place : ℕ) → Type 0 where
