@@ -131,6 +131,10 @@ module _ {s : List ℕ} {levels place : ℕ} (e : Expr) (t : TermAt s levels pla
   pub kind-low : h .kind ≤ 26
   kind-low = omega (arith, k .kind, own-node e .0 (fits-is e .0 (t .fits) .0) .kind)
 
+  -- so a walk comes to no kind above the last
+  pub none-above : 27 ≤ h .kind → ⊥
+  none-above high = omega (arith, kind-low)
+
   -- what is told of its node with the children behind its record is told of the term
   module _ (P : Expr → (used next : ℕ) → Type 0) where
     pub one-kid : {f : Expr → Expr} → nodeOf (recordOf s h) ≡ node1 f

@@ -59,7 +59,18 @@ pub(crate) fn desugar_with_env(
             top,
             allowance,
         ),
-        _ => crate::leaf::leaf(head, from, &s[at..], place, env, work, top, allowance),
+        0..=6 | 20..=26 => crate::leaf::leaf(
+            head,
+            from,
+            &s[at..],
+            place,
+            env,
+            work,
+            top,
+            allowance,
+        ),
+        // Not reached: form has refused a kind above 26.
+        _ => Walked::Refused(2, place),
     }
 }
 

@@ -27,7 +27,7 @@ pub fn arity(kind: u8) -> usize
     ensures { λ r. ⌜ r ≡ arityOf kind ⌝ }
 {
     match kind {
-        0..=6 => 0,
+        0..=6 | 20..=26 => 0,
         7..=12 | 18 => 2,
         13..=16 | 19 => 1,
         17 => 3,

@@ -173,7 +173,9 @@ fn check_with_env(
             work,
             top,
         ),
-        _ => told(leaf(head, &s[at..], place, env, work), from, place + 1),
+        0..=6 | 20..=26 => told(leaf(head, &s[at..], place, env, work), from, place + 1),
+        // Not reached: form has refused a kind above 26.
+        _ => Walked::Refused(2, place),
     }
 }
 

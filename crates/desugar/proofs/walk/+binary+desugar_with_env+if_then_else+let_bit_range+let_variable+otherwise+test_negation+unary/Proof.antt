@@ -26,7 +26,7 @@ use Rattle.desugar.proofs.walk.unary.Reads as unary
 use Rattle.desugar.proofs.walk.+binary+desugar_with_env+if_then_else+let_bit_range+let_variable+otherwise+test_negation+unary.Lts-unary as unary-lts
 use Common.{μ-binary, binary-claims, binary-at, μ-desugar-with-env, desugar-with-env-claims, desugar-with-env-at, μ-if-then-else, if-then-else-claims, if-then-else-at, μ-let-bit-range, let-bit-range-claims, let-bit-range-at, μ-let-variable, let-variable-claims, let-variable-at, μ-otherwise, otherwise-claims, otherwise-at, μ-test-negation, test-negation-claims, test-negation-at, μ-unary, unary-claims, unary-at}
 use Binary.{binary-add-desugar-with-env, binary-add-desugar-with-env-2, binary-desugar-with-env-requires, binary-enum-known-number, binary-same-length, binary-returns, binary-enum-known-a, binary-add-at, binary-settle-requires, binary-drops-requires, binary-mul-second-at, binary-add-second-at, binary-second-at-requires, binary-desugar-with-env-requires-2, binary-enum-known-number-2, binary-same-length-2, binary-returns-2, binary-enum-known-b, binary-same-length-3, binary-returns-3, binary-join-requires, binary-same-length-4, binary-returns-4}
-use DesugarWithEnv.{desugar-with-env-sub-read-record, desugar-with-env-part-read-record-start, desugar-with-env-part-read-record-end, desugar-with-env-read-record-requires, desugar-with-env-enum-known-number, desugar-with-env-returns, desugar-with-env-enum-known-head, desugar-with-env-add-from, desugar-with-env-sub-test-negation, desugar-with-env-test-negation-requires, desugar-with-env-sub-if-then-else, desugar-with-env-if-then-else-requires, desugar-with-env-sub-let-variable, desugar-with-env-let-variable-requires, desugar-with-env-sub-let-bit-range, desugar-with-env-let-bit-range-requires, desugar-with-env-sub-binary, desugar-with-env-binary-requires, desugar-with-env-sub-unary, desugar-with-env-unary-requires, desugar-with-env-sub-leaf, desugar-with-env-part-leaf-start, desugar-with-env-part-leaf-end, desugar-with-env-leaf-requires, desugar-with-env-same-length, desugar-with-env-returns-2, desugar-with-env-same-length-2, desugar-with-env-returns-3, desugar-with-env-same-length-3, desugar-with-env-returns-4, desugar-with-env-same-length-4, desugar-with-env-returns-5, desugar-with-env-same-length-5, desugar-with-env-returns-6, desugar-with-env-same-length-6, desugar-with-env-returns-7, desugar-with-env-same-length-7, desugar-with-env-returns-8}
+use DesugarWithEnv.{desugar-with-env-sub-read-record, desugar-with-env-part-read-record-start, desugar-with-env-part-read-record-end, desugar-with-env-read-record-requires, desugar-with-env-enum-known-number, desugar-with-env-returns, desugar-with-env-enum-known-head, desugar-with-env-add-from, desugar-with-env-sub-test-negation, desugar-with-env-test-negation-requires, desugar-with-env-sub-if-then-else, desugar-with-env-if-then-else-requires, desugar-with-env-sub-let-variable, desugar-with-env-let-variable-requires, desugar-with-env-sub-let-bit-range, desugar-with-env-let-bit-range-requires, desugar-with-env-sub-binary, desugar-with-env-binary-requires, desugar-with-env-sub-unary, desugar-with-env-unary-requires, desugar-with-env-sub-leaf, desugar-with-env-part-leaf-start, desugar-with-env-part-leaf-end, desugar-with-env-leaf-requires, desugar-with-env-same-length, desugar-with-env-returns-2, desugar-with-env-same-length-2, desugar-with-env-returns-3, desugar-with-env-same-length-3, desugar-with-env-returns-4, desugar-with-env-same-length-4, desugar-with-env-returns-5, desugar-with-env-same-length-5, desugar-with-env-returns-6, desugar-with-env-same-length-6, desugar-with-env-returns-7, desugar-with-env-returns-8, desugar-with-env-same-length-7, desugar-with-env-returns-9}
 use IfThenElse.{if-then-else-add-desugar-with-env, if-then-else-add-desugar-with-env-2, if-then-else-desugar-with-env-requires, if-then-else-enum-known-number, if-then-else-same-length, if-then-else-returns, if-then-else-enum-known-c, if-then-else-add-at, if-then-else-settle-requires, if-then-else-mul-end, if-then-else-add-end, if-then-else-desugar-with-env-requires-2, if-then-else-enum-known-number-2, if-then-else-same-length-2, if-then-else-returns-2, if-then-else-enum-known-t, if-then-else-settle-requires-2, if-then-else-otherwise-requires, if-then-else-same-length-3, if-then-else-returns-3}
 use LetBitRange.{let-bit-range-with-alias-requires, let-bit-range-add-desugar-with-env, let-bit-range-add-desugar-with-env-2, let-bit-range-desugar-with-env-requires, let-bit-range-same-length, let-bit-range-returns}
 use LetVariable.{let-variable-add-desugar-with-env, let-variable-desugar-with-env-requires, let-variable-enum-known-number, let-variable-same-length, let-variable-returns, let-variable-enum-known-d, let-variable-settle-requires, let-variable-mul-end, let-variable-add-end, let-variable-with-variable-requires, let-variable-add-desugar-with-env-2, let-variable-desugar-with-env-requires-2, let-variable-same-length-2, let-variable-returns-2}
@@ -39,7 +39,7 @@ use Rattle.desugar.proofs.walk.+binary+desugar_with_env+if_then_else+le
 pub +binary+desugar-with-env+if-then-else+let-bit-range+let-variable+otherwise+test-negation+unary-spec : {M : Type 1} → statement M
 +binary+desugar-with-env+if-then-else+let-bit-range+let-variable+otherwise+test-negation+unary-spec = close μ-binary μ-desugar-with-env μ-if-then-else μ-let-bit-range μ-let-variable μ-otherwise μ-test-negation μ-unary
     (λ t. binary-lts.spec (binary-claims t) (binary-at t) binary.Post (binary-add-desugar-with-env t) (binary-add-desugar-with-env-2 t) (binary-desugar-with-env-requires t) (binary-enum-known-number t) (binary-same-length t) (binary-returns t) (binary-enum-known-a t) (binary-add-at t) (binary-settle-requires t) (binary-drops-requires t) (binary-mul-second-at t) (binary-add-second-at t) (binary-second-at-requires t) (binary-desugar-with-env-requires-2 t) (binary-enum-known-number-2 t) (binary-same-length-2 t) (binary-returns-2 t) (binary-enum-known-b t) (binary-same-length-3 t) (binary-returns-3 t) (binary-join-requires t) (binary-same-length-4 t) (binary-returns-4 t))
-    (λ t. desugar-with-env-lts.spec (desugar-with-env-claims t) (desugar-with-env-at t) desugar-with-env.Post (desugar-with-env-sub-read-record t) (desugar-with-env-part-read-record-start t) (desugar-with-env-part-read-record-end t) (desugar-with-env-read-record-requires t) (desugar-with-env-enum-known-number t) (desugar-with-env-returns t) (desugar-with-env-enum-known-head t) (desugar-with-env-add-from t) (desugar-with-env-sub-test-negation t) (desugar-with-env-test-negation-requires t) (desugar-with-env-sub-if-then-else t) (desugar-with-env-if-then-else-requires t) (desugar-with-env-sub-let-variable t) (desugar-with-env-let-variable-requires t) (desugar-with-env-sub-let-bit-range t) (desugar-with-env-let-bit-range-requires t) (desugar-with-env-sub-binary t) (desugar-with-env-binary-requires t) (desugar-with-env-sub-unary t) (desugar-with-env-unary-requires t) (desugar-with-env-sub-leaf t) (desugar-with-env-part-leaf-start t) (desugar-with-env-part-leaf-end t) (desugar-with-env-leaf-requires t) (desugar-with-env-same-length t) (desugar-with-env-returns-2 t) (desugar-with-env-same-length-2 t) (desugar-with-env-returns-3 t) (desugar-with-env-same-length-3 t) (desugar-with-env-returns-4 t) (desugar-with-env-same-length-4 t) (desugar-with-env-returns-5 t) (desugar-with-env-same-length-5 t) (desugar-with-env-returns-6 t) (desugar-with-env-same-length-6 t) (desugar-with-env-returns-7 t) (desugar-with-env-same-length-7 t) (desugar-with-env-returns-8 t))
+    (λ t. desugar-with-env-lts.spec (desugar-with-env-claims t) (desugar-with-env-at t) desugar-with-env.Post (desugar-with-env-sub-read-record t) (desugar-with-env-part-read-record-start t) (desugar-with-env-part-read-record-end t) (desugar-with-env-read-record-requires t) (desugar-with-env-enum-known-number t) (desugar-with-env-returns t) (desugar-with-env-enum-known-head t) (desugar-with-env-add-from t) (desugar-with-env-sub-test-negation t) (desugar-with-env-test-negation-requires t) (desugar-with-env-sub-if-then-else t) (desugar-with-env-if-then-else-requires t) (desugar-with-env-sub-let-variable t) (desugar-with-env-let-variable-requires t) (desugar-with-env-sub-let-bit-range t) (desugar-with-env-let-bit-range-requires t) (desugar-with-env-sub-binary t) (desugar-with-env-binary-requires t) (desugar-with-env-sub-unary t) (desugar-with-env-unary-requires t) (desugar-with-env-sub-leaf t) (desugar-with-env-part-leaf-start t) (desugar-with-env-part-leaf-end t) (desugar-with-env-leaf-requires t) (desugar-with-env-same-length t) (desugar-with-env-returns-2 t) (desugar-with-env-same-length-2 t) (desugar-with-env-returns-3 t) (desugar-with-env-same-length-3 t) (desugar-with-env-returns-4 t) (desugar-with-env-same-length-4 t) (desugar-with-env-returns-5 t) (desugar-with-env-same-length-5 t) (desugar-with-env-returns-6 t) (desugar-with-env-same-length-6 t) (desugar-with-env-returns-7 t) (desugar-with-env-returns-8 t) (desugar-with-env-same-length-7 t) (desugar-with-env-returns-9 t))
     (λ t. if-then-else-lts.spec (if-then-else-claims t) (if-then-else-at t) if-then-else.Post (if-then-else-add-desugar-with-env t) (if-then-else-add-desugar-with-env-2 t) (if-then-else-desugar-with-env-requires t) (if-then-else-enum-known-number t) (if-then-else-same-length t) (if-then-else-returns t) (if-then-else-enum-known-c t) (if-then-else-add-at t) (if-then-else-settle-requires t) (if-then-else-mul-end t) (if-then-else-add-end t) (if-then-else-desugar-with-env-requires-2 t) (if-then-else-enum-known-number-2 t) (if-then-else-same-length-2 t) (if-then-else-returns-2 t) (if-then-else-enum-known-t t) (if-then-else-settle-requires-2 t) (if-then-else-otherwise-requires t) (if-then-else-same-length-3 t) (if-then-else-returns-3 t))
     (λ t. let-bit-range-lts.spec (let-bit-range-claims t) (let-bit-range-at t) let-bit-range.Post (let-bit-range-with-alias-requires t) (let-bit-range-add-desugar-with-env t) (let-bit-range-add-desugar-with-env-2 t) (let-bit-range-desugar-with-env-requires t) (let-bit-range-same-length t) (let-bit-range-returns t))
     (λ t. let-variable-lts.spec (let-variable-claims t) (let-variable-at t) let-variable.Post (let-variable-add-desugar-with-env t) (let-variable-desugar-with-env-requires t) (let-variable-enum-known-number t) (let-variable-same-length t) (let-variable-returns t) (let-variable-enum-known-d t) (let-variable-settle-requires t) (let-variable-mul-end t) (let-variable-add-end t) (let-variable-with-variable-requires t) (let-variable-add-desugar-with-env-2 t) (let-variable-desugar-with-env-requires-2 t) (let-variable-same-length-2 t) (let-variable-returns-2 t))
