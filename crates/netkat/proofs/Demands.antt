@@ -94,6 +94,18 @@ each-call (Subrange a b s e) out out′ r h =
     map-same (ok v) = refl
     map-same (refuse k p) = refl
 
+-- no refusal has the number 0
+cause-named : {A : Type 0} {D : ℕ → ℕ → Type 0} {x : Answer A} → Decided D x → (k p : ℕ) → D k p → 1 ≤ k
+cause-named h k p d = h .named k p (h .causes k p .0 d)
+
+pub never-zero : (c : Call) (room k p : ℕ) → Declined c room k p → 1 ≤ k
+never-zero (Check bs) room = cause-named (check-decided bs)
+never-zero (TestFragment bs) room = cause-named (fragment-decided bs)
+never-zero (FieldCount bs) room = cause-named (fields-decided bs)
+never-zero (Desugar bs n work) room = cause-named (desugar-decided bs n work room)
+never-zero (Substitute bs x rs) room = cause-named (substitute-decided bs x rs room)
+never-zero (Subrange a b s e) room = cause-named (subrange-decided a b s e)
+
 -- ## Demand 2
 
 -- with an allowance and buffers that cover a term, Desugar answers as desugaring without limit does

@@ -27,7 +27,7 @@ use Rattle.netkat.specs.Demands.{Answers, Call, Declined, Demand1, Deman
 use Rattle.netkat.specs.Points.{Point, Scope, definitions, desugarAt, meansAt, oneSteps, walk}
 use Rattle.netkat.specs.declared.Answer.{Answer as HostAnswer}
 use Rattle.netkat.proofs.AtPoint.{desugar-at-answers, desugar-at-means, desugar-at-succeeds}
-use Rattle.netkat.proofs.Demands.{each-call, points-and-whole, trees-and-forms}
+use Rattle.netkat.proofs.Demands.{each-call, never-zero, points-and-whole, trees-and-forms}
 use Rattle.netkat.proofs.Inside.{each-record, inside-points, walk-inside, walk-length}
 use Rattle.netkat.proofs.Numbers.{Numbered, desugar-at-numbers}
 use Rattle.netkat.proofs.Rules.{behind-rule, none-fails, rules-append}
@@ -40,6 +40,10 @@ use Rattle.netkat.proofs.Whole.{check-bytes, desugar-bytes, desugared-b
 -- whose contract is Answers. That a call ends is part of what the prover shows of each function
 pub demand-1 : (c : Call) (out out′ : List ℕ) (r : HostAnswer) → Answers c out out′ r → Demand1 (Declined c (length out)) out out′ r
 demand-1 = each-call
+
+-- "A call answers success or a refusal number with a place.": no refusal of an operation has the number 0, by which a host tells success
+pub number-theorem : (c : Call) (room k p : ℕ) → Declined c room k p → 1 ≤ k
+number-theorem = never-zero
 
 -- "For every term within document 01's limits, with an allowance and buffers that cover it, the core is the tree that `desugar` gives, and a
 -- refusal is of the kind it gives. Each literal, prefix, wildcard and range form is proved to hold of, or set, exactly the field values

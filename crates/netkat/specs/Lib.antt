@@ -1,4 +1,4 @@
--- The check, and desugaring and meaning at a point. Read in this order.
+-- The check, desugaring and meaning at a point, and the demands. Read in this order.
 pub mod Points
 pub mod Check
 pub mod Entry
