@@ -1,6 +1,6 @@
 /* From a written NetKAT policy to its one-bit core: what libnetkat.a exports.
  *
- * Terms and cores are bytes; the requirement calls their form "term bytes". A slice is a pointer to its first element and its length in
+ * Terms and cores are bytes; the requirement says their form under "Term bytes". A slice is a pointer to its first element and its length in
  * elements. Every function answers a struct by value. Of what its caller owns it changes nothing but `work` and `out`; it allocates
  * nothing and keeps no pointer and no state. So it may be called from several threads at once, as long as no call is lent a `work` or
  * `out` that another call has, and nobody writes the bytes that a call reads.

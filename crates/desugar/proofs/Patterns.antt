@@ -14,7 +14,7 @@ use Rattle.literals.specs.Patterns.{Cidr, Exact, HoldsOf, IpRange, Pattern, Wil
 use Rattle.literals.proofs.Bits.{bit-at-bits, bit-at-value, length-bits, length-pad, value-below, value-of-bits, value-of-pad}
 use Rattle.expr.specs.Answers.{ok}
 use Rattle.expr.specs.Terms.{Assigns, Core, Matches, Tests, Use, Where}
-use Rattle.desugar.specs.Claims.{Forms, Outside, Sets, TestsFor}
+use Rattle.desugar.specs.Claims.{Outside, Sets, TestsFor}
 use Rattle.desugar.specs.Leaves.{between, useCore}
 use Rattle.desugar.specs.Negation.{isTest}
 use Rattle.desugar.specs.Packets.{Others, Packet, coreMeans, fieldBits, fieldValue, useMeans, withRange}
@@ -116,13 +116,13 @@ module _ (others : Others) (w : Where) (s e at : ℕ) where
   suits : (u : Use) → Ruled u → RangeSuits w u (some (s, e))
   suits u h = decided (range-decides w u (s, e) at) h
 
-  match-form : (m : Pattern) → Ruled (Matches m) → TestsFor others (useCore (Matches m) s (e - s)) s e (HoldsOf m (e - s))
+  pub match-form : (m : Pattern) → Ruled (Matches m) → TestsFor others (useCore (Matches m) s (e - s)) s e (HoldsOf m (e - s))
   match-form m h = tests-for others (useCore (Matches m) s (e - s)) s e (HoldsOf m (e - s)) (use-means others w (Matches m) (s, e) (suits (Matches m) h))
 
-  test-form : (a : Bits) → Ruled (Tests a) → TestsFor others (useCore (Tests a) s (e - s)) s e (λ v. v ≡ valueOf a)
+  pub test-form : (a : Bits) → Ruled (Tests a) → TestsFor others (useCore (Tests a) s (e - s)) s e (λ v. v ≡ valueOf a)
   test-form a h = tests-for others (useCore (Tests a) s (e - s)) s e (λ v. v ≡ valueOf a) (use-means others w (Tests a) (s, e) (suits (Tests a) h))
 
-  assign-form : (a : Bits) → Ruled (Assigns a) → Sets others (useCore (Assigns a) s (e - s)) s e (valueOf a)
+  pub assign-form : (a : Bits) → Ruled (Assigns a) → Sets others (useCore (Assigns a) s (e - s)) s e (valueOf a)
   assign-form a h =
       let k : length a ≤ e - s = literal-short w a (e - s) (suits (Assigns a) h .1) in
       let below : valueOf a < 2 ^ (e - s) = lt-of-lt-of-le (value-below a) (pow-le-pow-right (omega arith) k) in
@@ -130,15 +130,3 @@ module _ (others : Others) (w : Where) (s e at : ℕ) where
         packets = use-means others w (Assigns a) (s, e) (suits (Assigns a) h);
         values = λ p q. Iff·trans (use-means others w (Assigns a) (s, e) (suits (Assigns a) h) p q) (set-is p q s (e - s) (valueOf a) below);
       }
-
--- each form, where the rules on its range hold
-pub each-form : (others : Others) (w : Where) (s e at : ℕ) → Forms others w s e at
-each-form others w s e at =
-    record {
-      test = test-form others w s e at;
-      assign = assign-form others w s e at;
-      exact = λ a. match-form others w s e at (Exact a);
-      cidr = λ a k. match-form others w s e at (Cidr a k);
-      wildcard = λ a m. match-form others w s e at (Wildcard a m);
-      ipRange = λ a b. match-form others w s e at (IpRange a b);
-    }

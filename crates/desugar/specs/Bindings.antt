@@ -6,7 +6,8 @@ use Rattle.expr.specs.{Answers.Answer, Answers.ok, Answers.refuse, Answers.andT
 use Rattle.desugar.specs.declared.Subrange.{Subrange}
 use Rattle.desugar.specs.declared.Subrange.the-variants.{Fields, Outside}
 
--- a Let gives a variable a value: a core, whether it is a test, a relation, or its definition. A LetBitRange gives an alias a range
+-- a Let gives a variable a value: a core, whether it is a test, a relation, whether its kinds are one-step, or its definition and place. A
+-- LetBitRange gives an alias a range
 pub data Binding {ℓ} (A : Type ℓ) : Type ℓ where
   variable : Name → A → Binding A
   range : Name → ℕ → ℕ → Binding A

@@ -99,7 +99,8 @@ module _ (others : Others) where
   means env (Var x) p q = Option·getD (lookupVariable env x) (λ p q. ⊥) p q
   means env (Ranged w u) p q = rangeMeans u (findRange env w) p q
 
--- a term has only one-step kinds, its variables' definitions included where they are used: env has that of each variable around
+-- a term's kinds are one-step, those of a definition only where its variable is used: env says of each variable around whether its
+-- definition's are
 abbrev pub OneStep : Env (Type 0) → Expr → Type 0
 OneStep env (Plain a) = oneStep (atomKind a) ≡ true
 OneStep env (Unary o e) = (oneStep (op1Kind o) ≡ true) × OneStep env e

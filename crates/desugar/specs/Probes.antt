@@ -1,8 +1,8 @@
 -- The starred probes of document 01 ("Probes"), as one list, and what no starred probe shows.
 use mathlib.Core.{Bool.Bool, Bool.true, Bool.false, List.List, List.[], List._∷_}
-use Prim.Native.Nat.{ℕ}
-use Rattle.literals.specs.{Bits.Bits, Bits.bitsOf, Patterns.Cidr, Patterns.IpRange}
-use Rattle.expr.specs.{Answers.Answer, Answers.ok, Form.encode, Form.encodeCore, Terms.Alias, Terms.Assigns, Terms.Binary, Terms.Core, Terms.Difference, Terms.Direct, Terms.Expr, Terms.IfThenElse, Terms.Intersect, Terms.Let, Terms.LetBitRange, Terms.Matches, Terms.One, Terms.Plain, Terms.Ranged, Terms.Sequence, Terms.Test, Terms.TestNegation, Terms.Tests, Terms.Union, Terms.Var, Terms.Xor, Terms.Zero, Terms.leaf, Terms.size, Terms.two}
+use Prim.Native.Nat.{ℕ, zero, suc}
+use Rattle.literals.specs.{Bits.Bits, Bits.bitsOf, Patterns.Exact, Patterns.Cidr, Patterns.Wildcard, Patterns.IpRange}
+use Rattle.expr.specs.{Answers.Answer, Answers.ok, Answers.refuse, Form.encode, Form.encodeCore, Terms.Alias, Terms.Assigns, Terms.Binary, Terms.Core, Terms.Difference, Terms.Direct, Terms.Dup, Terms.Expr, Terms.IfThenElse, Terms.Intersect, Terms.Let, Terms.LetBitRange, Terms.Matches, Terms.One, Terms.Plain, Terms.Ranged, Terms.Sequence, Terms.Star, Terms.Test, Terms.TestNegation, Terms.Tests, Terms.Unary, Terms.Union, Terms.Use, Terms.Var, Terms.Xor, Terms.Zero, Terms.leaf, Terms.size, Terms.two}
 use Rattle.desugar.specs.{Desugar.desugarBytes, Desugar.workFor}
 
 -- what the program of document 01 asks with: allowance 1,000, work memory to match, an answer buffer of 7,000 bytes
@@ -84,7 +84,8 @@ starred =
     (both (test 0 true) (both (test 1 false) (both (test 2 false) (test 3 false)))) 7 14
     ∷ []
 
--- What no starred probe shows: a Sequence drops a One on either side, and a Difference's right side is desugared again
+-- What no starred probe shows: a Sequence drops a One on either side, a Difference's right side is desugared again, the other negations,
+-- and a wildcard, lowest field first
 abbrev pub further : List Probe
 further =
     gives (Binary Sequence (Plain One) (Plain (Test 0 true))) (test 0 true) 1 2
@@ -92,4 +93,94 @@ further =
     ∷ gives (Binary Sequence (Plain (Test 0 true)) (Plain Zero)) (two Sequence (test 0 true) (leaf Zero)) 3 3
     ∷ gives (TestNegation (Binary Difference (Plain (Test 0 true)) (IfThenElse (Plain (Test 0 true)) (Plain One) (Plain Zero))))
     (two Union (test 0 false) (two Union (test 0 true) (two Sequence (test 0 false) (leaf Zero)))) 7 16
+    ∷ gives (TestNegation (Binary Union (Plain (Test 0 true)) (Plain (Test 1 false)))) (both (test 0 false) (test 1 true)) 3 6
+    ∷ gives (TestNegation (Binary Intersect (Plain (Test 0 true)) (Plain (Test 1 false)))) (two Union (test 0 false) (test 1 true)) 3 6
+    ∷ gives (TestNegation (Binary Sequence (Plain (Test 0 true)) (Plain (Test 1 false)))) (two Union (test 0 false) (test 1 true)) 3 6
+    ∷ gives (Ranged (Direct 0 4) (Matches (Wildcard (literal 9 4) (literal 2 4)))) (both (test 0 true) (both (test 2 false) (test 3 true))) 5 5
+    ∷ []
+
+-- ## Refusals
+
+-- a call of Desugar that is refused: the term's bytes, the allowance, the lengths of work memory and answer buffer; the number and the place
+pub record Refused : Type 0 where
+  pub term : List ℕ
+  pub allowance : ℕ
+  pub work : ℕ
+  pub room : ℕ
+  pub number : ℕ
+  pub place : ℕ
+
+abbrev pub answered : Refused → Answer (List ℕ × ℕ)
+answered r = desugarBytes (r .term) (r .allowance) (r .work) (r .room)
+
+abbrev pub refusedBy : Refused → Answer (List ℕ × ℕ)
+refusedBy r = refuse (r .number) (r .place)
+
+-- as the program of document 01 asks, of bytes and of a written term
+abbrev pub malformed : List ℕ → (number place : ℕ) → Refused
+malformed bs r p = record { term = bs; allowance = 1000; work = workFor 1000; room = 7000; number = r; place = p }
+
+abbrev pub refuses : Expr → (number place : ℕ) → Refused
+refuses e r p = malformed (encode e) r p
+
+-- with an allowance n
+abbrev pub spends : Expr → (n : ℕ) → (number place : ℕ) → Refused
+spends e n r p = record { term = encode e; allowance = n; work = workFor n; room = 7000; number = r; place = p }
+
+-- n Stars over a Zero, and a Union of Unions, n levels of them, over Zeros: as bytes
+abbrev pub stars : ℕ → List ℕ
+stars zero = 0 ∷ []
+stars (suc n) = 1 ∷ 14 ∷ stars n
+
+abbrev pub unions : ℕ → List ℕ → List ℕ
+unions zero bs = 0 ∷ bs
+unions (suc n) bs = 1 ∷ 7 ∷ unions n (unions n bs)
+
+-- an alias over [s, e) and a use of it
+abbrev pub aliased : ℕ → ℕ → Use → Expr
+aliased s e u = LetBitRange 1 s e (Ranged (Alias 1) u)
+
+-- each number that Desugar answers, with the orders that document 01 names
+abbrev pub refusals : List Refused
+refusals =
+    -- "1 bytes used up." "Then the kind, if its bit stands: 1 no byte left, 4 zero, 2 above 26. Then 3, a map bit that the kind lacks."
+    malformed [] 1 0 ∷ malformed (1 ∷ []) 1 0 ∷ malformed (1 ∷ 0 ∷ []) 4 0 ∷ malformed (1 ∷ 27 ∷ []) 2 0 ∷ malformed (3 ∷ 1 ∷ []) 3 0
+    -- "Then fields in map order: 1 bytes lacking, 4 zero, 5 out of range.": a name; a Test's value; a pattern; a literal's length and spare bits
+    ∷ malformed (3 ∷ 20 ∷ 1 ∷ []) 1 0 ∷ malformed (3 ∷ 20 ∷ 0 ∷ 0 ∷ []) 4 0 ∷ malformed (33 ∷ 6 ∷ 2 ∷ []) 5 0 ∷ malformed (17 ∷ 25 ∷ 4 ∷ []) 5 0
+    ∷ malformed (65 ∷ 24 ∷ 0 ∷ []) 4 0 ∷ malformed (65 ∷ 24 ∷ 129 ∷ []) 5 0 ∷ malformed (65 ∷ 24 ∷ 1 ∷ 2 ∷ []) 4 0
+    -- "Bits 5 and 7 are judged there (3) right after bit 4's turn"
+    ∷ malformed (33 ∷ 25 ∷ []) 3 0 ∷ malformed (145 ∷ 25 ∷ 1 ∷ []) 3 0
+    -- "6 more than 4,096 records, 7 depth over 256 (the root is at 1)", "8 bytes left over, place the record count"
+    ∷ malformed (unions 12 []) 6 4096 ∷ malformed (stars 256) 7 256 ∷ malformed (0 ∷ 0 ∷ []) 8 1
+    -- "9 allowance outside 1 to 65,535; 10 work memory under 8 × allowance + 8,192 numbers of 32 bits; form"
+    ∷ record { term = []; allowance = 0; work = 0; room = 0; number = 9; place = 0 }
+    ∷ record { term = []; allowance = 65536; work = workFor 65536; room = 0; number = 9; place = 0 }
+    ∷ record { term = []; allowance = 1; work = 8199; room = 0; number = 10; place = 0 }
+    -- "11 unknown alias in assign, test or match. 12 unbound variable. 13 plain variable that only an alias has. 14 range end below start."
+    ∷ refuses (Ranged (Alias 1) (Tests (literal 1 1))) 11 0 ∷ refuses (Var 1) 12 0 ∷ refuses (LetBitRange 1 0 4 (Var 1)) 13 1
+    ∷ refuses (aliased 5 3 (Tests (literal 1 1))) 14 1
+    -- "15 literal longer than the alias, or Exact pattern longer than its field. 16 direct range literal not exactly the width."
+    ∷ refuses (aliased 4 8 (Tests (literal 5 5))) 15 1 ∷ refuses (Ranged (Direct 0 2) (Matches (Exact (literal 5 3)))) 15 0
+    ∷ refuses (Ranged (Direct 4 8) (Tests (literal 5 3))) 16 0
+    -- "17 CIDR prefix above the width. 18 CIDR address length not the width.", "17 before 18"
+    ∷ refuses (Ranged (Direct 0 8) (Matches (Cidr (literal 160 7) 9))) 17 0 ∷ refuses (Ranged (Direct 0 8) (Matches (Cidr (literal 32 7) 3))) 18 0
+    -- "19 wildcard address or mask length not the width."
+    ∷ refuses (Ranged (Direct 0 4) (Matches (Wildcard (literal 9 3) (literal 2 4)))) 19 0
+    ∷ refuses (Ranged (Direct 0 4) (Matches (Wildcard (literal 9 4) (literal 2 3)))) 19 0
+    -- "20 range pattern on a field over 128 bits, or with a bound longer than the field. 21 range start above range end.", "20 before 21"
+    ∷ refuses (Ranged (Direct 0 129) (Matches (IpRange (literal 1 1) (literal 0 1)))) 20 0
+    ∷ refuses (Ranged (Direct 0 2) (Matches (IpRange (literal 7 3) (literal 1 2)))) 20 0
+    ∷ refuses (Ranged (Direct 0 2) (Matches (IpRange (literal 2 2) (literal 1 2)))) 21 0
+    -- "In one node 14 comes first", "24 last"
+    ∷ refuses (aliased 5 3 (Tests (literal 5 5))) 14 1 ∷ spends (Ranged (Direct 4 8) (Tests (literal 5 3))) 1 16 0
+    -- "22 negation of a non-test. 23 if-condition not a test.", "Children go left to right, then the node's own rules and draw."
+    ∷ refuses (Unary Star (TestNegation (Plain Dup))) 22 1 ∷ refuses (IfThenElse (Plain Dup) (Plain One) (Plain Zero)) 23 0
+    ∷ refuses (IfThenElse (Plain Dup) (Plain One) (Var 1)) 12 3
+    -- "24 a draw beyond the allowance.", at the draw that goes beyond it, in walking order with the rules
+    ∷ spends (Ranged (Direct 0 2) (Tests (literal 1 2))) 2 24 0
+    ∷ spends (Binary Union (Ranged (Direct 0 2) (Tests (literal 1 2))) (Var 1)) 2 24 1
+    ∷ spends (Binary Union (Var 1) (Ranged (Direct 0 2) (Tests (literal 1 2)))) 2 12 1
+    ∷ spends (Binary Union (Plain One) (Plain One)) 2 24 0
+    -- "26 encoded core longer than the answer buffer"
+    ∷ record { term = 1 ∷ 1 ∷ []; allowance = 1; work = workFor 1; room = 1; number = 26; place = 0 }
     ∷ []

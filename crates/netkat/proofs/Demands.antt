@@ -1,5 +1,5 @@
 -- The three demands of specs/Demands.antt, from the laws of the definitions.
-use mathlib.Core.Path.{_≡_, refl, sym, ap, _∙_}
+use mathlib.Core.Path.{_≡_, refl, sym, ap, subst, _∙_}
 use mathlib.Core.Logic.{_↔_, Iff·trans}
 use mathlib.Core.Bool.{Bool}
 use mathlib.Core.List.{List, [], _∷_, _++_, List·Memᴰ}
@@ -19,15 +19,15 @@ use Rattle.desugar.specs.Desugar.{desugar, desugarBytes}
 use Rattle.desugar.specs.Meter.{drawn}
 use Rattle.desugar.specs.Packets.{Others}
 use Rattle.desugar.proofs.Limit.{Costs, desugar-costs, drawsOf, gives, limit-of, stops}
-use Rattle.desugar.proofs.Patterns.{each-form}
 use Rattle.netkat.specs.Check.{RulesHold, checkBytes, testSort}
 use Rattle.netkat.specs.Claims.{Desugared, Desugars, Good}
-use Rattle.netkat.specs.Demands.{Answers, AtPassing, Call, Check, Covers, Declined, Demand1, Demand2, Demand3, Desugar, FieldCount, OnGood, Subrange, Substitute, TestFragment, WholeTerm}
-use Rattle.netkat.specs.Entry.{Hosts, hosted}
+use Rattle.netkat.specs.Demands.{AtPassing, Covers, Declined, Demand1, Demand2, Demand3, OnGood, WholeTerm}
+use Rattle.netkat.specs.Entry.{Answers, Call, Check, Desugar, FieldCount, Hosts, Subrange, Substitute, TestFragment, hosted}
 use Rattle.netkat.specs.Points.{Point, definitions, desugarAt, walk}
 use Rattle.netkat.specs.declared.Answer.{Answer as HostAnswer}
 use Rattle.netkat.proofs.AtPoint.{desugar-at-means, desugar-at-succeeds}
 use Rattle.netkat.proofs.Declines.{Decided, check-decided, decided-map, desugar-decided, fields-decided, fragment-decided, subrange-decided, substitute-decided}
+use Rattle.netkat.proofs.Forms.{each-form}
 use Rattle.netkat.proofs.OneStepKinds.{one-step-kinds}
 use Rattle.netkat.proofs.Whole.{check-bytes, desugar-bytes, desugared-bytes, rest, within-limits}
 
@@ -85,8 +85,8 @@ each-call (TestFragment bs) out out′ r h = hosted-demand (λ b. (bit b, 0)) r 
 each-call (FieldCount bs) out out′ r h = hosted-demand (λ n. (n, 0)) r (fieldsBytes bs) (fields-decided bs) (h .0) out out′ (λ k p e. h .1)
 each-call (Desugar bs n work) out out′ r h = buffered (desugarBytes bs n work (length out)) (desugar-decided bs n work (length out)) out out′ r h
 each-call (Substitute bs x rs) out out′ r h =
-    buffered (mapAnswer (λ out. (out, 0)) (substituteBytes bs x rs (length out)))
-    (decided-map (λ out. (out, 0)) (substituteBytes bs x rs (length out)) (substitute-decided bs x rs (length out))) out out′ r h
+    buffered (mapAnswer (λ cs. (cs, 0)) (substituteBytes bs x rs (length out)))
+    (decided-map (λ cs. (cs, 0)) (substituteBytes bs x rs (length out)) (substitute-decided bs x rs (length out))) out out′ r h
 each-call (Subrange a b s e) out out′ r h =
     hosted-demand (λ v. v) r (computeSubrange a b s e) (subrange-decided a b s e) (h .0 ∙ ap hosted (sym (map-same (computeSubrange a b s e)))) out out′ (λ k p e. h .1)
   where
@@ -126,7 +126,11 @@ covered e w k n work room h =
 pub trees-and-forms : (others : Others) → Demand2 others
 trees-and-forms others =
     record {
-      tree = λ e w. let k = desugar-costs [] e 0 in (drawsOf k, limit-of [] e 0 k, covered e w k);
+      tree = λ e w. let k = desugar-costs [] e 0 in (
+        drawsOf k,
+        limit-of [] e 0 k,
+        λ n work out out′ r h a. subst (λ (x : Answer (List ℕ × ℕ)). Hosts x out out′ r) (covered e w k n work (length out) h) a,
+      );
       forms = each-form others;
     }
 

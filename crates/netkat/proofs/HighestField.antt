@@ -1,5 +1,6 @@
 -- Field count declines at the first Assign or Test of the highest field, and nowhere else.
 use mathlib.Core.Path.{_≡_, refl, ap, subst}
+use mathlib.Core.Logic.{_↔_}
 use mathlib.Core.Bool.{Bool, true, false}
 use mathlib.Core.List.{List, [], _∷_, _++_, List·Memᴰ, List·Memᴰ·head, Memᴰ·append-left, Memᴰ·append-right, List·Memᴰ·eq-of-singleton}
 use Prim.Native.Nat.{ℕ, _+_, _^_, _≤_, _<_, max}
@@ -8,7 +9,8 @@ use lib.Dec.{ltb}
 use borrow.Author.Tests.{ltb-false, ltb-true}
 use Rattle.expr.specs.Answers.{Answer, andThen, mapAnswer, need, ok, refuse}
 use Rattle.expr.specs.Operations.{atomFields, numFields}
-use Rattle.expr.specs.Terms.{Alias, Atom, Binary, Direct, Expr, IfThenElse, Let, LetBitRange, Plain, Ranged, TestNegation, Unary, Var, records}
+use Rattle.expr.specs.Terms.{Alias, Assign, Atom, Binary, Direct, Dup, End, Expr, IfThenElse, Let, LetBitRange, One, Plain, Ranged, Test, TestNegation, Top, Unary, Var, Zero, records}
+use Rattle.expr.proofs.TermShape.{records-is}
 use Rattle.desugar.specs.Bindings.{range, variable}
 use Rattle.netkat.specs.Claims.{HighestField, Inside, body, condition, definition, elseBranch, first, here, negated, rangeBody, second, thenBranch, unary}
 use Rattle.netkat.specs.Points.{Point, Scope, point, walk}
@@ -16,20 +18,9 @@ use Rattle.netkat.proofs.Inside.{by-part, walk-inside}
 
 -- ## Places
 
-some-record : (e : Expr) → 1 ≤ records e
-some-record (Plain a) = omega arith
-some-record (Unary o e) = omega arith
-some-record (Binary o a b) = omega arith
-some-record (TestNegation e) = omega arith
-some-record (IfThenElse c t e) = omega arith
-some-record (Let x d b) = omega arith
-some-record (LetBitRange x s e b) = omega arith
-some-record (Var x) = omega arith
-some-record (Ranged w u) = omega arith
-
 -- a subterm begins at one of the term's records
 inside-placed : {sc′ sc : Scope} {e′ e : Expr} {at′ at : ℕ} → Inside sc′ e′ at′ sc e at → (at ≤ at′) × (at′ < at + records e)
-inside-placed {sc′} {sc} {e′} here = (omega arith, omega (arith, some-record e′))
+inside-placed {sc′} {sc} {e′} here = (omega arith, omega (arith, records-is e′))
 inside-placed (unary i) = let h = inside-placed i in (omega (arith, h .0), omega (arith, h .1))
 inside-placed (first i) = let h = inside-placed i in (omega (arith, h .0), omega (arith, h .1))
 inside-placed (second i) = let h = inside-placed i in (omega (arith, h .0), omega (arith, h .1))
@@ -89,12 +80,22 @@ module _ (sc : Scope) (e : Expr) (at : ℕ) (h : ¬ HighestField e) where
       (λ i. let z = placed sc a from p m in omega (arith, z .1, later q i))
       (λ i. absurd (only q i f))
 
+-- an atom's count is beyond 32 bits exactly if it is an Assign or Test of the highest field
+highest-is : (a : Atom) → HighestField (Plain a) ↔ (2 ^ 32 ≤ atomFields a)
+highest-is Zero = ((λ h. absurd h), (λ h. absurd (omega arith)))
+highest-is One = ((λ h. absurd h), (λ h. absurd (omega arith)))
+highest-is Top = ((λ h. absurd h), (λ h. absurd (omega arith)))
+highest-is Dup = ((λ h. absurd h), (λ h. absurd (omega arith)))
+highest-is End = ((λ h. absurd h), (λ h. absurd (omega arith)))
+highest-is (Assign f v) = ((λ h. h), (λ h. h))
+highest-is (Test f v) = ((λ h. h), (λ h. h))
+
 atom-first : (sc : Scope) (a : Atom) (at : ℕ) → First (walk sc (Plain a) at) (numFields (Plain a) at)
 atom-first sc a at = go (ltb (atomFields a) (2 ^ 32)) refl
   where
     go : (b : Bool) → ltb (atomFields a) (2 ^ 32) ≡ b → First (point sc (Plain a) at ∷ []) (andThen (need b 25 at) λ _. ok (atomFields a))
-    go true e = none (atomFields a) (only sc (Plain a) at (λ h. let l : atomFields a < 2 ^ 32 = ltb-true _ _ e in absurd (omega arith)))
-    go false e = found (point sc (Plain a) at) (List·Memᴰ·head refl) (ltb-false _ _ e) (λ q m f. least q m)
+    go true e = none (atomFields a) (only sc (Plain a) at (λ h. let l : atomFields a < 2 ^ 32 = ltb-true _ _ e in absurd (omega (arith, highest-is a .0 h))))
+    go false e = found (point sc (Plain a) at) (List·Memᴰ·head refl) (highest-is a .1 (ltb-false _ _ e)) (λ q m f. least q m)
       where
         least : (q : Point) → List·Memᴰ q (point sc (Plain a) at ∷ []) → at ≤ q .place
         least q m = let z = ap (λ (r : Point). r .place) (List·Memᴰ·eq-of-singleton m) in omega (arith, z)

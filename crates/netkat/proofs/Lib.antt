@@ -11,6 +11,7 @@ pub mod AtPoint
 pub mod Numbers
 pub mod Whole
 pub mod OneStepKinds
+pub mod Forms
 pub mod HighestField
 pub mod Declines
 pub mod Demands

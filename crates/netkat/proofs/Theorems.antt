@@ -1,30 +1,31 @@
--- The theorems on the definitions: the three demands, then what stands behind them in the order of document 01. A reviewer reads the
--- statements here first; each proof is a line that cites the laws beside this file and in the crates below. Every definition that a
--- statement uses stands in specs/.
+-- The theorems on the definitions: the three demands, then what stands behind them. A reviewer reads the statements here first; each proof
+-- is a few lines that cite the laws beside this file and in the crates below. The definitions that a statement uses stand in specs/; only
+-- the host's struct, HostAnswer, is declared in src/lib.rt.
 use mathlib.Core.Path.{_≡_, refl, subst}
 use mathlib.Core.Logic.{_↔_}
 use mathlib.Core.Bool.{Bool, true, false}
-use mathlib.Core.List.{List, [], _∷_, _++_, map, List·Memᴰ}
+use mathlib.Core.List.{List, [], _∷_, map, List·Memᴰ}
 use Prim.Native.Nat.{ℕ, _≤_, _<_}
 use native.Mathlib.Nat.{zero-add}
 use lib.ListN.{length}
 use Rattle.literals.specs.Bits.{Bytes}
-use Rattle.expr.specs.Answers.{andThen, mapAnswer, ok, refuse}
+use Rattle.expr.specs.Answers.{ok, refuse}
 use Rattle.expr.specs.Form.{Within, decode, encode}
-use Rattle.expr.specs.Terms.{Core, Expr, records}
+use Rattle.expr.specs.Operations.{fieldsBytes, substituteBytes}
+use Rattle.expr.specs.Terms.{Core, Expr, Plain, Star, Test, Unary, Var, records}
 use Rattle.expr.proofs.FormTheorem.{bytes-of-encode, decode-encode, form-exact}
-use Rattle.desugar.specs.Bindings.{Env}
+use Rattle.desugar.specs.Bindings.{Env, computeSubrange}
 use Rattle.desugar.specs.Claims.{Limit}
 use Rattle.desugar.specs.Desugar.{desugarBytes}
-use Rattle.desugar.specs.Negation.{isTest}
-use Rattle.desugar.specs.Packets.{OneStep, Others, Packet, coreMeans, oneStep}
-use Rattle.desugar.specs.Probes.{computed, starred, stated}
+use Rattle.desugar.specs.Packets.{Others, oneStep}
+use Rattle.desugar.specs.Probes.{answered, computed, further, refusals, refusedBy, starred, stars, stated}
 use Rattle.desugar.proofs.Limit.{limit}
-use Rattle.desugar.proofs.Probes.{starred-probes}
-use Rattle.netkat.specs.Check.{RulesHold, check, checkBytes, firstFailure, sorts, testSort}
-use Rattle.netkat.specs.Claims.{Desugared, Desugars, Good, Inside, PointAt, Refusal}
-use Rattle.netkat.specs.Demands.{Answers, Call, Declined, Demand1, Demand2, Demand3}
-use Rattle.netkat.specs.Points.{Point, Scope, definitions, desugarAt, meansAt, oneSteps, walk}
+use Rattle.desugar.proofs.Probes.{further-probes, refused-probes, starred-probes}
+use Rattle.netkat.specs.Check.{RulesHold, check, checkBytes, firstFailure, testSort}
+use Rattle.netkat.specs.Claims.{AtPoint, Desugared, Desugars, Good, Inside, PointAt, Refusal}
+use Rattle.netkat.specs.Demands.{Declined, Demand1, Demand2, Demand3}
+use Rattle.netkat.specs.Entry.{Answers, Call}
+use Rattle.netkat.specs.Points.{Point, Scope, definitions, desugarAt, walk}
 use Rattle.netkat.specs.declared.Answer.{Answer as HostAnswer}
 use Rattle.netkat.proofs.AtPoint.{desugar-at-answers, desugar-at-means, desugar-at-succeeds}
 use Rattle.netkat.proofs.Demands.{each-call, never-zero, points-and-whole, trees-and-forms}
@@ -37,7 +38,7 @@ use Rattle.netkat.proofs.Whole.{check-bytes, desugar-bytes, desugared-b
 
 -- "Malformed bytes, broken rules, numbers out of range, a spent allowance and short buffers are refused, each by its number and place in
 -- document 01, with the answer buffer untouched. All other input is accepted. Every call on any bytes ends.": of every exported function,
--- whose contract is Answers. That a call ends is part of what the prover shows of each function
+-- whose contract is Answers (specs/Entry.antt). That a call ends is part of what the prover shows of each function
 pub demand-1 : (c : Call) (out out′ : List ℕ) (r : HostAnswer) → Answers c out out′ r → Demand1 (Declined c (length out)) out out′ r
 demand-1 = each-call
 
@@ -51,7 +52,12 @@ number-theorem = never-zero
 pub demand-2 : (others : Others) → Demand2 others
 demand-2 = trees-and-forms
 
--- "Take any term of good form, any point of it, and the lets and aliases around that point, where the definitions of those lets pass. .."
+-- "Take any term of good form, any point of it, and the lets and aliases around that point, where the definitions of those lets pass. The
+-- check's rules 11 to 23, on scope, width, order and tests, hold at that point and at every point below it exactly when desugaring the
+-- subterm there, with no limit on allowance or buffers, is not refused. Where it is not refused, and the subterm and those definitions use
+-- only the one-step kinds, then for every two packets p and q the subterm's core relates p to q exactly when its own written meaning there
+-- does. For the whole term the claim is also made, as document 01 puts it, of what Check and Desugar answer, whatever the allowance and the
+-- buffers."
 pub demand-3 : (others : Others) → Demand3 others
 demand-3 = points-and-whole
 
@@ -76,19 +82,6 @@ limit-theorem = limit
 
 -- ## At any point of any term
 
--- For the subterm e that begins at a record, with the Lets and LetBitRanges sc around it
-pub record AtPoint (others : Others) (sc : Scope) (e : Expr) (at : ℕ) : Type 0 where
-  -- the rules hold exactly when desugaring there is not refused: at each record of the definitions around, and of the subterm
-  pub succeeds : ((c : Core) × (desugarAt sc e at ≡ ok c)) ↔ (RulesHold (definitions sc) × RulesHold (walk sc e at))
-  -- where the definitions around pass, the subterm's own rules decide
-  pub passing : RulesHold (definitions sc) → ((c : Core) × (desugarAt sc e at ≡ ok c)) ↔ RulesHold (walk sc e at)
-  -- "It is refused where one of 11 to 23 first fails"; else its core is a test exactly where the written subterm is of that sort
-  pub answers : mapAnswer isTest (desugarAt sc e at) ≡ andThen (firstFailure (definitions sc ++ walk sc e at)) (λ _. ok (testSort (sorts sc) e))
-  -- "and never by 24, 26 or lack of room"
-  pub numbers : (r p : ℕ) → desugarAt sc e at ≡ refuse r p → (11 ≤ r) × (r ≤ 23)
-  -- the core means what was written there, for every two packets, if the subterm and the definitions that it uses are one-step
-  pub means : OneStep (oneSteps sc) e → (c : Core) → desugarAt sc e at ≡ ok c → (p q : Packet) → coreMeans others c p q ↔ meansAt others sc e p q
-
 pub at-any-point : (others : Others) (sc : Scope) (e : Expr) (at : ℕ) → AtPoint others sc e at
 at-any-point others sc e at =
     record {
@@ -107,8 +100,9 @@ at-any-point others sc e at =
 pub points-are-records : (e : Expr) → (length (walk [] e 0) ≡ records e) × ((i : ℕ) → i < records e → PointAt (walk [] e 0) i)
 points-are-records e = (walk-length [] e 0, λ i h. rw (zero-add i) at (each-record [] e 0 i h))
 
-pub points-lie-inside : (e : Expr) (p : Point) → List·Memᴰ p (walk [] e 0) → Inside (p .scope) (p .term) (p .place) [] e 0
-points-lie-inside e p m = walk-inside [] e 0 p m
+-- and so of the points from any record on down
+pub points-lie-inside : (sc : Scope) (e : Expr) (at : ℕ) (p : Point) → List·Memᴰ p (walk sc e at) → Inside (p .scope) (p .term) (p .place) sc e at
+points-lie-inside = walk-inside
 
 -- where Check succeeds on a whole term, desugaring succeeds at each of its points
 pub everywhere : (e : Expr) (s : Bool) → check [] e 0 ≡ ok s → (p : Point) → List·Memᴰ p (walk [] e 0)
@@ -121,7 +115,8 @@ everywhere e s h p m =
 
 -- ## The whole term on its bytes, whatever the allowance and the buffers
 
--- "Check .. succeeds exactly where the form is good and rules 11 to 23 hold at every record". "Success says whether the term is a test."
+-- "Check, unless a list lent to it is too short, succeeds exactly where the form is good and rules 11 to 23 hold at every record": it is lent
+-- none. "Success says whether the term is a test."
 pub check-theorem : (bs : List ℕ) (s : Bool) → (checkBytes bs ≡ ok s) ↔ ((e : Expr) × Good bs e × (s ≡ testSort [] e))
 check-theorem bs s = check-bytes bs s
 
@@ -156,3 +151,18 @@ one-step-theorem = refl
 -- with its answer, its core's bytes and its node count (desugar/specs/Probes.antt)
 pub starred-theorem : map computed starred ≡ map stated starred
 starred-theorem = starred-probes
+
+-- what no starred probe shows of trees
+pub further-theorem : map computed further ≡ map stated further
+further-theorem = further-probes
+
+-- "Numbers match the Rust's error kinds; places are ours.": each number that Desugar answers, by a small input, with the orders that document
+-- 01 names, and the numbers that other operations have
+pub refusals-theorem : map answered refusals ≡ map refusedBy refusals
+refusals-theorem = refused-probes
+
+pub other-refusals-theorem : (fieldsBytes (encode (Plain (Test 4294967295 true))) ≡ refuse 25 0)
+    × (substituteBytes (encode (Unary Star (Var 1))) 1 (stars 255) 7000 ≡ refuse 27 0)
+    × (substituteBytes (encode (Var 1)) 1 [] 7000 ≡ refuse 31 0)
+    × (computeSubrange 4 8 1 5 ≡ refuse 28 0)
+other-refusals-theorem = (refl, refl, refl, refl)

@@ -1,11 +1,11 @@
 -- What the theorems claim of points and of whole terms (document 01, "The words of demand 3"; the theorems stand in
 -- proofs/Theorems.antt).
-use mathlib.Core.{Path._≡_, Bool.true, List.List, List.[], List._∷_, List.List·Memᴰ}
+use mathlib.Core.{Path._≡_, Logic._↔_, Bool.true, List.List, List.[], List._∷_, List._++_, List.List·Memᴰ}
 use Prim.Native.Nat.{ℕ, _+_, _^_, _≤_, _<_}
 use lib.{ListN.length}
-use Rattle.expr.specs.{Answers.Answer, Answers.ok, Answers.refuse, Terms.Op1, Terms.Op2, Terms.Core, Terms.Name, Terms.Expr, Terms.Plain, Terms.Unary, Terms.Binary, Terms.TestNegation, Terms.IfThenElse, Terms.Let, Terms.LetBitRange, Terms.Var, Terms.Ranged, Terms.atomKind, Terms.op1Kind, Terms.op2Kind, Terms.records, Form.decode, Form.encodeCore, Form.rangedRecord, Operations.atomFields}
-use Rattle.desugar.specs.{Bindings.variable, Bindings.range, Meter.spent, Meter.drawn, Meter.overdrawn, Desugar.desugar, Desugar.desugarBytes, Desugar.maxAllowance, Desugar.workFor, Packets.oneStep, Claims.Limit}
-use Rattle.netkat.specs.{Points.Scope, Points.Point, Points.walk, Check.RulesHold}
+use Rattle.expr.specs.{Answers.Answer, Answers.ok, Answers.refuse, Answers.mapAnswer, Answers.andThen, Terms.Zero, Terms.One, Terms.Top, Terms.Dup, Terms.End, Terms.Assign, Terms.Test, Terms.Op1, Terms.Op2, Terms.Core, Terms.Name, Terms.Expr, Terms.Plain, Terms.Unary, Terms.Binary, Terms.TestNegation, Terms.IfThenElse, Terms.Let, Terms.LetBitRange, Terms.Var, Terms.Ranged, Terms.atomKind, Terms.op1Kind, Terms.op2Kind, Terms.records, Form.decode, Form.encodeCore, Form.rangedRecord}
+use Rattle.desugar.specs.{Bindings.variable, Bindings.range, Meter.spent, Meter.drawn, Meter.overdrawn, Desugar.desugar, Desugar.desugarBytes, Desugar.maxAllowance, Desugar.workFor, Negation.isTest, Packets.oneStep, Packets.OneStep, Packets.Others, Packets.Packet, Packets.coreMeans, Claims.Limit}
+use Rattle.netkat.specs.{Points.Scope, Points.Point, Points.walk, Points.definitions, Points.desugarAt, Points.meansAt, Points.oneSteps, Check.RulesHold, Check.firstFailure, Check.sorts, Check.testSort}
 
 -- ## Points
 
@@ -30,9 +30,15 @@ pub data Inside (sc′ : Scope) (e′ : Expr) (at′ : ℕ) : Scope → Expr →
 abbrev pub PointAt : List Point → ℕ → Type 0
 PointAt ps n = (p : Point) × List·Memᴰ p ps × (p .place ≡ n)
 
--- an Assign or Test of field 4,294,967,295, the highest that 32 bits hold
+-- an Assign or Test of field 4,294,967,295: no field that was read from bytes is higher
 abbrev pub HighestField : Expr → Type 0
-HighestField (Plain a) = 2 ^ 32 ≤ atomFields a
+HighestField (Plain Zero) = ⊥
+HighestField (Plain One) = ⊥
+HighestField (Plain Top) = ⊥
+HighestField (Plain Dup) = ⊥
+HighestField (Plain End) = ⊥
+HighestField (Plain (Assign f v)) = 2 ^ 32 ≤ f + 1
+HighestField (Plain (Test f v)) = 2 ^ 32 ≤ f + 1
 HighestField (Unary o e) = ⊥
 HighestField (Binary o a b) = ⊥
 HighestField (TestNegation e) = ⊥
@@ -57,6 +63,19 @@ kindOf (Ranged w u) = (rangedRecord w u) .kind
 -- "use only the one-step kinds": each of these records has such a kind
 abbrev pub OneStepKinds : List Point → Type 0
 OneStepKinds ps = (p : Point) → List·Memᴰ p ps → oneStep (kindOf (p .term)) ≡ true
+
+-- For the subterm e that begins at a record, with the Lets and LetBitRanges sc around it
+pub record AtPoint (others : Others) (sc : Scope) (e : Expr) (at : ℕ) : Type 0 where
+  -- the rules hold exactly when desugaring there is not refused: at each record of the definitions around, and of the subterm
+  pub succeeds : ((c : Core) × (desugarAt sc e at ≡ ok c)) ↔ (RulesHold (definitions sc) × RulesHold (walk sc e at))
+  -- where the definitions around pass, the subterm's own rules decide
+  pub passing : RulesHold (definitions sc) → ((c : Core) × (desugarAt sc e at ≡ ok c)) ↔ RulesHold (walk sc e at)
+  -- "It is refused where one of 11 to 23 first fails"; else its core is a test exactly where the written subterm is of that sort
+  pub answers : mapAnswer isTest (desugarAt sc e at) ≡ andThen (firstFailure (definitions sc ++ walk sc e at)) (λ _. ok (testSort (sorts sc) e))
+  -- "and never by 24, 26 or lack of room"
+  pub numbers : (r p : ℕ) → desugarAt sc e at ≡ refuse r p → (11 ≤ r) × (r ≤ 23)
+  -- the core means what was written there, for every two packets, if the kinds of the subterm and of the definitions that it uses are one-step
+  pub means : OneStep (oneSteps sc) e → (c : Core) → desugarAt sc e at ≡ ok c → (p q : Packet) → coreMeans others c p q ↔ meansAt others sc e p q
 
 -- ## The whole term
 

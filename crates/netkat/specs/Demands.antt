@@ -1,31 +1,13 @@
--- The three demands, each as one record. Their words stand in quotation marks; proofs/Theorems.antt proves each.
-use mathlib.Core.{Path._≡_, Logic._↔_, List.List, List.[], List.List·Memᴰ}
-use Prim.Native.Nat.{ℕ, _+_, _^_, _≤_, _<_}
-use lib.{ListN.length, ListN.take}
-use Rattle.literals.specs.{Bits.bit}
-use Rattle.expr.specs.{Answers.Answer, Answers.ok, Answers.refuse, Answers.mapAnswer, Terms.Core, Terms.Name, Terms.Expr, Terms.Where, Terms.records, Terms.depth, Form.decode, Form.encode, Form.encodeCore, Form.maxRecords, Form.maxDepth, Form.Within, Operations.fragmentBytes, Operations.fieldsBytes, Operations.substitute, Operations.substituteBytes}
-use Rattle.desugar.specs.{Bindings.computeSubrange, Meter.drawn, Meter.overdrawn, Desugar.desugarBytes, Desugar.workFor, Packets.Others, Packets.Packet, Packets.coreMeans, Claims.Limit, Claims.Forms}
-use Rattle.netkat.specs.{Points.Point, Points.walk, Points.definitions, Points.desugarAt, Points.meansAt, Check.RulesHold, Check.firstFailure, Check.checkBytes, Entry.hosted, Entry.Hosts, Claims.HighestField, Claims.OneStepKinds, Claims.Good, Claims.Allowed, Claims.Unlimited, Claims.Outcome, Claims.Desugared}
+-- The three demands, each as one record; proofs/Theorems.antt proves each. The words of the demands and of document 01 stand in quotation
+-- marks. That "every call on any bytes ends" has no field: the prover shows it of each function.
+use mathlib.Core.{Path._≡_, Logic._↔_, Bool.false, Option.some, List.List, List.[], List.List·Memᴰ}
+use Prim.Native.Nat.{ℕ, _+_, _-_, _^_, _≤_, _<_}
+use lib.{ListN.length, ListN.take, ListN.getD}
+use Rattle.literals.specs.{Bits.Bits, Bits.bitAt, Bits.valueOf, Patterns.Exact, Patterns.Cidr, Patterns.Wildcard, Patterns.IpRange}
+use Rattle.expr.specs.{Answers.Answer, Answers.ok, Answers.refuse, Answers.mapAnswer, Terms.Core, Terms.Name, Terms.Expr, Terms.Ranged, Terms.Where, Terms.Assigns, Terms.Tests, Terms.Matches, Terms.records, Terms.depth, Form.decode, Form.encode, Form.encodeCore, Form.maxRecords, Form.maxDepth, Form.Within, Operations.substitute}
+use Rattle.desugar.specs.{Bindings.findRange, Meter.drawn, Meter.overdrawn, Desugar.workFor, Packets.Others, Packets.Packet, Packets.coreMeans, Claims.Limit, Claims.TestsFor, Claims.Sets}
+use Rattle.netkat.specs.{Points.Scope, Points.Point, Points.walk, Points.definitions, Points.desugarAt, Points.meansAt, Check.RulesHold, Check.firstFailure, Entry.hosted, Entry.Hosts, Entry.Call, Entry.Check, Entry.TestFragment, Entry.FieldCount, Entry.Desugar, Entry.Substitute, Entry.Subrange, Entry.Answers, Claims.HighestField, Claims.OneStepKinds, Claims.Good, Claims.Allowed, Claims.Unlimited, Claims.Outcome, Claims.Desugared}
 use Rattle.netkat.specs.declared.Answer.{Answer as HostAnswer}
-
--- ## Calls
-
--- a call of an exported function, with the bytes and numbers that it is given; of work memory, its length
-pub data Call : Type 0 where
-  Check TestFragment FieldCount : (term : List ℕ) → Call
-  Desugar : (term : List ℕ) (allowance work : ℕ) → Call
-  Substitute : (term : List ℕ) (name : Name) (replacement : List ℕ) → Call
-  Subrange : (aliasStart aliasEnd subStart subEnd : ℕ) → Call
-
--- the contract of each exported function, as its `ensures` has it (src/lib.rt, src/operations.rt): r is its answer, out and out′ its answer
--- buffer before and after the call. A function without one is lent nothing that it could write
-abbrev pub Answers : Call → (out out′ : List ℕ) → HostAnswer → Type 0
-Answers (Check bs) out out′ r = (r ≡ hosted (mapAnswer (λ b. (bit b, 0)) (checkBytes bs))) × (out′ ≡ out)
-Answers (TestFragment bs) out out′ r = (r ≡ hosted (mapAnswer (λ b. (bit b, 0)) (fragmentBytes bs))) × (out′ ≡ out)
-Answers (FieldCount bs) out out′ r = (r ≡ hosted (mapAnswer (λ n. (n, 0)) (fieldsBytes bs))) × (out′ ≡ out)
-Answers (Desugar bs n work) out out′ r = Hosts (desugarBytes bs n work (length out)) out out′ r
-Answers (Substitute bs x rs) out out′ r = Hosts (mapAnswer (λ out. (out, 0)) (substituteBytes bs x rs (length out))) out out′ r
-Answers (Subrange a b s e) out out′ r = (r ≡ hosted (computeSubrange a b s e)) × (out′ ≡ out)
 
 -- ## Demand 1: what is refused
 
@@ -73,7 +55,8 @@ pub record SubrangeInside (aliasStart aliasEnd subStart subEnd : ℕ) : Type 0 w
   pub order : subStart ≤ subEnd
   pub inside : aliasStart + subEnd ≤ aliasEnd
 
--- "each by its number and place in document 01": a call with an answer buffer of room bytes is to be refused by a number at a place
+-- "each by its number and place in document 01": a call with an answer buffer of room bytes is to be refused by a number at a place. Those of
+-- form are `decode`'s (expr/specs/Form), those of the rules `ruleAt`'s (Check)
 abbrev pub Declined : Call → (room number place : ℕ) → Type 0
 Declined (Check bs) room r p = CheckDeclined bs r p
 Declined (TestFragment bs) room r p = decode bs ≡ refuse r p
@@ -100,13 +83,37 @@ pub record Covers (e : Expr) (ds : List (ℕ × ℕ)) (n work room : ℕ) : Type
   pub allowance : drawn ds ≤ n
   pub buffer : (c : Core) → desugarAt [] e 0 ≡ ok c → length (encodeCore c) ≤ room
 
+-- Desugar on the bytes of the term e, whatever the allowance and the buffers that cover it: the host gets what desugaring without limit gives,
+-- core and refusal alike, with the sum of the draws ds
+abbrev pub Gives : Expr → List (ℕ × ℕ) → Type 0
+Gives e ds = (n work : ℕ) (out out′ : List ℕ) (r : HostAnswer) → Covers e ds n work (length out) → Answers (Desugar (encode e) n work) out out′ r
+    → Hosts (mapAnswer (λ c. (encodeCore c, drawn ds)) (desugarAt [] e 0)) out out′ r
+
+-- what desugaring gives of each form, over the fields from s up to e
+pub record Forms (others : Others) (sc : Scope) (w : Where) (s e at : ℕ) : Type 0 where
+  -- "the range's value is the literal"
+  pub test : (a : Bits) (c : Core) → desugarAt sc (Ranged w (Tests a)) at ≡ ok c → TestsFor others c s e (λ v. v ≡ valueOf a)
+  -- "q is p with that bit given the value; range and alias assignment likewise, for the whole range"
+  pub assign : (a : Bits) (c : Core) → desugarAt sc (Ranged w (Assigns a)) at ≡ ok c → Sets others c s e (valueOf a)
+  -- "the range's value is the literal"
+  pub exact : (a : Bits) (c : Core) → desugarAt sc (Ranged w (Matches (Exact a))) at ≡ ok c → TestsFor others c s e (λ v. v ≡ valueOf a)
+  -- "agrees in the prefix bits": the k highest of e - s
+  pub cidr : (a : Bits) (k : ℕ) (c : Core) → desugarAt sc (Ranged w (Matches (Cidr a k))) at ≡ ok c
+      → TestsFor others c s e (λ v. (i : ℕ) → e - s - k ≤ i → i < e - s → bitAt i v ≡ getD a i false)
+  -- "agrees where the mask is false"
+  pub wildcard : (a m : Bits) (c : Core) → desugarAt sc (Ranged w (Matches (Wildcard a m))) at ≡ ok c
+      → TestsFor others c s e (λ v. (i : ℕ) → i < e - s → getD m i false ≡ false → bitAt i v ≡ getD a i false)
+  -- "lies between the bounds, both included"
+  pub ipRange : (a b : Bits) (c : Core) → desugarAt sc (Ranged w (Matches (IpRange a b))) at ≡ ok c
+      → TestsFor others c s e (λ v. (valueOf a ≤ v) × (v ≤ valueOf b))
+
 pub record Demand2 (others : Others) : Type 0 where
-  -- "For every term within document 01's limits, .. the core is the tree that `desugar` gives, and a refusal is of the kind it gives.": the
-  -- answer on its bytes is that of desugaring without limit, with the sum of the draws
-  pub tree : (e : Expr) → Within e → (ds : List (ℕ × ℕ)) × Limit [] e 0 ds
-      × ((n work room : ℕ) → Covers e ds n work room → desugarBytes (encode e) n work room ≡ mapAnswer (λ c. (encodeCore c, drawn ds)) (desugarAt [] e 0))
-  -- "Each literal, prefix, wildcard and range form is proved to hold of, or set, exactly the field values that document 01 defines"
-  pub forms : (w : Where) (s e at : ℕ) → Forms others w s e at
+  -- "For every term within document 01's limits, .. the core is the tree that `desugar` gives, and a refusal is of the kind it gives.":
+  -- `desugar` is the definition that renders the Rust's; that its trees are the Rust's is tested
+  pub tree : (e : Expr) → Within e → (ds : List (ℕ × ℕ)) × Limit [] e 0 ds × Gives e ds
+  -- "Each literal, prefix, wildcard and range form is proved to hold of, or set, exactly the field values that document 01 defines": under any
+  -- Lets and LetBitRanges around it, where its range is written out or its alias has it
+  pub forms : (sc : Scope) (w : Where) (s e at : ℕ) → findRange sc w ≡ some (s, e) → Forms others sc w s e at
 
 -- ## Demand 3: at any point, and of the whole term
 
@@ -134,7 +141,8 @@ pub record OnGood (bs : List ℕ) (n work : ℕ) (out out′ : List ℕ) (r : Ho
 
 -- what Check answered on the bytes and what Desugar answered, with its buffer before and after the call
 pub record WholeTerm (bs : List ℕ) (n work : ℕ) (out out′ : List ℕ) (checked desugared : HostAnswer) : Type 0 where
-  -- "Check .. succeeds exactly where the form is good and rules 11 to 23 hold at every record"
+  -- "Check, unless a list lent to it is too short, succeeds exactly where the form is good and rules 11 to 23 hold at every record": it is
+  -- lent none
   pub check : (checked .number ≡ 0) ↔ ((e : Expr) × Good bs e)
   -- "where Check succeeds, Desugar succeeds or answers 9, 10, 24 or 26, each only for its cause above"
   pub answers : checked .number ≡ 0 → OnGood bs n work out out′ desugared

@@ -2,7 +2,10 @@
 use mathlib.Core.{Path._≡_, List.List}
 use Prim.Native.Nat.{ℕ}
 use lib.{ListN.length}
-use Rattle.expr.specs.{Answers.Answer, Answers.ok, Answers.refuse, Answers.mapAnswer, Answers.bufferAfter}
+use Rattle.literals.specs.{Bits.bit}
+use Rattle.expr.specs.{Answers.Answer, Answers.ok, Answers.refuse, Answers.mapAnswer, Answers.bufferAfter, Terms.Name, Operations.fragmentBytes, Operations.fieldsBytes, Operations.substituteBytes}
+use Rattle.desugar.specs.{Bindings.computeSubrange, Desugar.desugarBytes}
+use Rattle.netkat.specs.{Check.checkBytes}
 use Rattle.netkat.specs.declared.Answer.{Answer as HostAnswer}
 
 -- "A call answers success or a refusal number with a place.": success has number 0, place 0 and two values; a refusal has no values
@@ -15,3 +18,20 @@ hosted (refuse r at) = record { number = r; place = at; first = 0; second = 0 }
 pub record Hosts (x : Answer (List ℕ × ℕ)) (out out′ : List ℕ) (r : HostAnswer) : Type 0 where
   pub answer : r ≡ hosted (mapAnswer (λ p. (length (p .0), p .1)) x)
   pub buffer : out′ ≡ bufferAfter (mapAnswer (λ p. p .0) x) out
+
+-- a call of an exported function, with the bytes and numbers that it is given; of work memory, its length
+pub data Call : Type 0 where
+  Check TestFragment FieldCount : (term : List ℕ) → Call
+  Desugar : (term : List ℕ) (allowance work : ℕ) → Call
+  Substitute : (term : List ℕ) (name : Name) (replacement : List ℕ) → Call
+  Subrange : (aliasStart aliasEnd subStart subEnd : ℕ) → Call
+
+-- the contract of each exported function: r is its answer, out and out′ its answer buffer before and after the call. One without a buffer is
+-- lent nothing that it could write. The first value of Check and Test fragment is 1 for yes and 0 for no
+abbrev pub Answers : Call → (out out′ : List ℕ) → HostAnswer → Type 0
+Answers (Check bs) out out′ r = (r ≡ hosted (mapAnswer (λ b. (bit b, 0)) (checkBytes bs))) × (out′ ≡ out)
+Answers (TestFragment bs) out out′ r = (r ≡ hosted (mapAnswer (λ b. (bit b, 0)) (fragmentBytes bs))) × (out′ ≡ out)
+Answers (FieldCount bs) out out′ r = (r ≡ hosted (mapAnswer (λ n. (n, 0)) (fieldsBytes bs))) × (out′ ≡ out)
+Answers (Desugar bs n work) out out′ r = Hosts (desugarBytes bs n work (length out)) out out′ r
+Answers (Substitute bs x rs) out out′ r = Hosts (mapAnswer (λ cs. (cs, 0)) (substituteBytes bs x rs (length out))) out out′ r
+Answers (Subrange a b s e) out out′ r = (r ≡ hosted (computeSubrange a b s e)) × (out′ ≡ out)

@@ -60,7 +60,7 @@ meanings others (range x s e ∷ sc) = range x s e ∷ meanings others sc
 abbrev pub meansAt : Others → Scope → Expr → Relation
 meansAt others sc e = means others (meanings others sc) e
 
--- which definitions around a point have only one-step kinds
+-- of which definitions around a point the kinds are one-step, apart from inner definitions that they do not use
 abbrev pub oneSteps : Scope → Env (Type 0)
 oneSteps [] = []
 oneSteps (variable x d ∷ sc) = variable x (OneStep (oneSteps sc) (d .0)) ∷ oneSteps sc

@@ -3,9 +3,8 @@ mod answers;
 mod check;
 pub mod operations;
 
-ghost use mathlib.Core.Path.{_≡_};
-ghost use Rattle.desugar.specs.Bindings.{computeSubrange};
-ghost use Rattle.netkat.specs.Entry.{hosted};
+ghost use mathlib.Core.List.{[]};
+ghost use Rattle.netkat.specs.Entry.{Answers, Call};
 use desugar::Subrange;
 
 // What a call answers. Success has number 0, place 0 and the operation's values, 0 where it has none; a refusal has its number and
@@ -26,7 +25,7 @@ pub extern "C" fn netkat_compute_subrange(
     sub_start: u32,
     sub_end: u32,
 ) -> Answer
-    ensures { λ r. ⌜ r ≡ hosted (computeSubrange «alias_start» «alias_end» «sub_start» «sub_end») ⌝ }
+    ensures { λ r. ⌜ Answers (Call.Subrange «alias_start» «alias_end» «sub_start» «sub_end») [] [] r ⌝ }
 {
     match desugar::compute_subrange(alias_start, alias_end, sub_start, sub_end) {
         Subrange::Fields(start, end) => Answer {

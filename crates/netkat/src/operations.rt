@@ -1,12 +1,8 @@
 // Check, Desugar, Substitute, Test fragment and Field count, as the solver's Rust process calls them.
 ghost use mathlib.Core.Path.{_≡_};
+ghost use mathlib.Core.List.{[]};
 ghost use lib.ListN.{length};
-ghost use Rattle.literals.specs.Bits.{bit};
-ghost use Rattle.expr.specs.Answers.{mapAnswer};
-ghost use Rattle.expr.specs.Operations.{fragmentBytes, fieldsBytes, substituteBytes};
-ghost use Rattle.desugar.specs.Desugar.{desugarBytes};
-ghost use Rattle.netkat.specs.Check.{checkBytes};
-ghost use Rattle.netkat.specs.Entry.{hosted, Hosts};
+ghost use Rattle.netkat.specs.Entry.{Answers, Call};
 use crate::Answer;
 use crate::check::Checked;
 use desugar::bytes::Desugared;
@@ -17,7 +13,7 @@ use expr::replace::Substituted;
 // Form and the rules 11 to 23: the first value is 1 if the term is a test, and else 0.
 #[no_mangle]
 pub extern "C" fn netkat_check(term: &[u8]) -> Answer
-    ensures { λ r. ⌜ r ≡ hosted (mapAnswer (λ b. (bit b, 0)) (checkBytes (now (term .entry)))) ⌝ }
+    ensures { λ r. ⌜ Answers (Call.Check (now (term .entry))) [] [] r ⌝ }
 {
     match crate::check::check(term) {
         Checked::Refused(number, at) => crate::answers::refused(number, at),
@@ -28,7 +24,7 @@ pub extern "C" fn netkat_check(term: &[u8]) -> Answer
 // Whether a term is in the test fragment: the first value is 1 if it is, and else 0.
 #[no_mangle]
 pub extern "C" fn netkat_is_test_fragment(term: &[u8]) -> Answer
-    ensures { λ r. ⌜ r ≡ hosted (mapAnswer (λ b. (bit b, 0)) (fragmentBytes (now (term .entry)))) ⌝ }
+    ensures { λ r. ⌜ Answers (Call.TestFragment (now (term .entry))) [] [] r ⌝ }
 {
     match expr::operations::is_test_fragment(term) {
         Fragment::Refused(number, at) => crate::answers::refused(number, at),
@@ -40,7 +36,7 @@ pub extern "C" fn netkat_is_test_fragment(term: &[u8]) -> Answer
 // LetBitRange; 0 where there is none.
 #[no_mangle]
 pub extern "C" fn netkat_num_fields(term: &[u8]) -> Answer
-    ensures { λ r. ⌜ r ≡ hosted (mapAnswer (λ n. (n, 0)) (fieldsBytes (now (term .entry)))) ⌝ }
+    ensures { λ r. ⌜ Answers (Call.FieldCount (now (term .entry))) [] [] r ⌝ }
 {
     match expr::operations::num_fields(term) {
         FieldCount::Refused(number, at) => crate::answers::refused(number, at),
@@ -57,8 +53,7 @@ pub extern "C" fn netkat_substitute(
     replacement: &[u8],
     out: &mut [u8],
 ) -> Answer
-    ensures { λ r. ⌜ Hosts (mapAnswer (λ bs. (bs, 0)) (substituteBytes (now (term .entry)) name (now (replacement .entry)) (length (now (out .entry)))))
-        (now (out .entry)) (now (out .exit)) r ⌝ }
+    ensures { λ r. ⌜ Answers (Call.Substitute (now (term .entry)) name (now (replacement .entry))) (now (out .entry)) (now (out .exit)) r ⌝ }
 {
     match expr::replace::substitute(term, name, replacement, out) {
         Substituted::Refused(number, at) => crate::answers::refused(number, at),
@@ -75,8 +70,7 @@ pub extern "C" fn netkat_desugar(
     work: &mut [u32],
     out: &mut [u8],
 ) -> Answer
-    ensures { λ r. ⌜ Hosts (desugarBytes (now (term .entry)) allowance (length (now (work .entry))) (length (now (out .entry))))
-        (now (out .entry)) (now (out .exit)) r ⌝ }
+    ensures { λ r. ⌜ Answers (Call.Desugar (now (term .entry)) allowance (length (now (work .entry)))) (now (out .entry)) (now (out .exit)) r ⌝ }
     ensures { λ r. ⌜ length (now (work .exit)) ≡ length (now (work .entry)) ⌝ }
 {
     match desugar::bytes::desugar(term, allowance, work, out) {

@@ -1,5 +1,5 @@
 -- `netkat_check` meets its contract: each case of the enum is answered by its number and values.
-use mathlib.Core.Path.{ap, subst, sym, _∙_}
+use mathlib.Core.Path.{ap, refl, subst, sym, _∙_}
 use borrow.Author.Needs.{needs}
 use Rattle.literals.specs.Bits.{bit}
 use Rattle.expr.specs.Answers.{mapAnswer}
@@ -27,14 +27,18 @@ judged-requires : tie.Need-judged-requires
 judged-requires c κs = search needs
 
 returns : tie.Need-returns
-returns c =
-    c .refused .ensures
-    ∙ ap (λ x. hosted (mapAnswer (λ b. (bit b, 0)) x)) (ap checkedAnswer (sym (c .before .before .number .given .1)) ∙ c .before .before .before .before .check .ensures)
+returns c = (
+  c .refused .ensures
+      ∙ ap (λ x. hosted (mapAnswer (λ b. (bit b, 0)) x)) (ap checkedAnswer (sym (c .before .before .number .given .1)) ∙ c .before .before .before .before .check .ensures),
+  refl,
+)
 
 returns-2 : tie.Need-returns-2
-returns-2 c =
-    c .judged .ensures
-    ∙ ap (λ x. hosted (mapAnswer (λ b. (bit b, 0)) x)) (ap checkedAnswer (sym (c .before .before .yes .given .1)) ∙ c .before .before .before .before .check .ensures)
+returns-2 c = (
+  c .judged .ensures
+      ∙ ap (λ x. hosted (mapAnswer (λ b. (bit b, 0)) x)) (ap checkedAnswer (sym (c .before .before .yes .given .1)) ∙ c .before .before .before .before .check .ensures),
+  refl,
+)
 
 pub netkat-check-spec : {M : Type 1} → statement M
 netkat-check-spec =

@@ -1,5 +1,5 @@
 -- `netkat_num_fields` meets its contract: each case of the enum is answered by its number and values.
-use mathlib.Core.Path.{ap, subst, sym, _∙_}
+use mathlib.Core.Path.{ap, refl, subst, sym, _∙_}
 use native.Mathlib.Omega.{arith}
 use borrow.Author.Needs.{needs}
 use Rattle.expr.specs.Answers.{mapAnswer}
@@ -29,12 +29,16 @@ success-requires : tie.Need-success-requires
 success-requires c κs = search needs
 
 returns : tie.Need-returns
-returns c =
-    c .refused .ensures ∙ ap (λ x. hosted (mapAnswer (λ n. (n, 0)) x)) (ap fieldsAnswer (sym (c .before .before .number .given .1)) ∙ c .before .before .before .before .num-fields .ensures)
+returns c = (
+  c .refused .ensures ∙ ap (λ x. hosted (mapAnswer (λ n. (n, 0)) x)) (ap fieldsAnswer (sym (c .before .before .number .given .1)) ∙ c .before .before .before .before .num-fields .ensures),
+  refl,
+)
 
 returns-2 : tie.Need-returns-2
-returns-2 c =
-    c .success .ensures ∙ ap (λ x. hosted (mapAnswer (λ n. (n, 0)) x)) (ap fieldsAnswer (sym (c .before .before .count .given .1)) ∙ c .before .before .before .before .num-fields .ensures)
+returns-2 c = (
+  c .success .ensures ∙ ap (λ x. hosted (mapAnswer (λ n. (n, 0)) x)) (ap fieldsAnswer (sym (c .before .before .count .given .1)) ∙ c .before .before .before .before .num-fields .ensures),
+  refl,
+)
 
 pub netkat-num-fields-spec : {M : Type 1} → statement M
 netkat-num-fields-spec =
