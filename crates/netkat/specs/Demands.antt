@@ -1,5 +1,5 @@
 -- The three demands, each as one record; proofs/Theorems.antt proves each. The words of the demands and of document 01 stand in quotation
--- marks. That "every call on any bytes ends" has no field: the prover shows it of each function.
+-- marks. "Every call on any bytes ends." has no field: the prover shows it of each function.
 use mathlib.Core.{Path._≡_, Logic._↔_, Bool.false, Option.some, List.List, List.[], List.List·Memᴰ}
 use Prim.Native.Nat.{ℕ, _+_, _-_, _^_, _≤_, _<_}
 use lib.{ListN.length, ListN.take, ListN.getD}
@@ -27,7 +27,7 @@ pub data DesugarDeclined (bs : List ℕ) (n work room : ℕ) : (number place : �
   allowance : ¬ Allowed n → DesugarDeclined bs n work room 9 0
   memory : Allowed n → work < workFor n → DesugarDeclined bs n work room 10 0
   form : (r p : ℕ) → Allowed n → workFor n ≤ work → decode bs ≡ refuse r p → DesugarDeclined bs n work room r p
-  -- the first rule that fails, where the allowance covers the draws before it
+  -- the first rule that fails, where the allowance reaches it: ds set that threshold, and the places of 24 below it
   rule : (e : Expr) (ds : List (ℕ × ℕ)) (r p : ℕ) → Allowed n → workFor n ≤ work → decode bs ≡ ok e → Limit [] e 0 ds → drawn ds ≤ n
       → firstFailure (walk [] e 0) ≡ refuse r p → DesugarDeclined bs n work room r p
   -- 24, at the first draw beyond the allowance
