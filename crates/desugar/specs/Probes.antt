@@ -127,10 +127,10 @@ refuses e r p = malformed (encode e) r p
 abbrev pub spends : Expr → (n : ℕ) → (number place : ℕ) → Refused
 spends e n r p = record { term = encode e; allowance = n; work = workFor n; room = 7000; number = r; place = p }
 
--- n Stars over a Zero, and a Union of Unions, n levels of them, over Zeros: as bytes
-abbrev pub stars : ℕ → List ℕ
-stars zero = 0 ∷ []
-stars (suc n) = 1 ∷ 14 ∷ stars n
+-- as bytes, in front of the bytes bs: n Stars, and n levels of Unions over Zeros
+abbrev pub stars : ℕ → List ℕ → List ℕ
+stars zero bs = bs
+stars (suc n) bs = 1 ∷ 14 ∷ stars n bs
 
 abbrev pub unions : ℕ → List ℕ → List ℕ
 unions zero bs = 0 ∷ bs
@@ -140,18 +140,21 @@ unions (suc n) bs = 1 ∷ 7 ∷ unions n (unions n bs)
 abbrev pub aliased : ℕ → ℕ → Use → Expr
 aliased s e u = LetBitRange 1 s e (Ranged (Alias 1) u)
 
--- each number that Desugar answers, with the orders that document 01 names
+-- each number that Desugar answers, with most of the orders that document 01 names
 abbrev pub refusals : List Refused
 refusals =
     -- "1 bytes used up." "Then the kind, if its bit stands: 1 no byte left, 4 zero, 2 above 26. Then 3, a map bit that the kind lacks."
-    malformed [] 1 0 ∷ malformed (1 ∷ []) 1 0 ∷ malformed (1 ∷ 0 ∷ []) 4 0 ∷ malformed (1 ∷ 27 ∷ []) 2 0 ∷ malformed (3 ∷ 1 ∷ []) 3 0
+    malformed [] 1 0 ∷ malformed (1 ∷ []) 1 0 ∷ malformed (1 ∷ 0 ∷ []) 4 0 ∷ malformed (1 ∷ 14 ∷ 1 ∷ 27 ∷ []) 2 1 ∷ malformed (3 ∷ 27 ∷ []) 2 0
+    ∷ malformed (3 ∷ 1 ∷ []) 3 0
     -- "Then fields in map order: 1 bytes lacking, 4 zero, 5 out of range.": a name; a Test's value; a pattern; a literal's length and spare bits
     ∷ malformed (3 ∷ 20 ∷ 1 ∷ []) 1 0 ∷ malformed (3 ∷ 20 ∷ 0 ∷ 0 ∷ []) 4 0 ∷ malformed (33 ∷ 6 ∷ 2 ∷ []) 5 0 ∷ malformed (17 ∷ 25 ∷ 4 ∷ []) 5 0
     ∷ malformed (65 ∷ 24 ∷ 0 ∷ []) 4 0 ∷ malformed (65 ∷ 24 ∷ 129 ∷ []) 5 0 ∷ malformed (65 ∷ 24 ∷ 1 ∷ 2 ∷ []) 4 0
     -- "Bits 5 and 7 are judged there (3) right after bit 4's turn"
     ∷ malformed (33 ∷ 25 ∷ []) 3 0 ∷ malformed (145 ∷ 25 ∷ 1 ∷ []) 3 0
-    -- "6 more than 4,096 records, 7 depth over 256 (the root is at 1)", "8 bytes left over, place the record count"
-    ∷ malformed (unions 12 []) 6 4096 ∷ malformed (stars 256) 7 256 ∷ malformed (0 ∷ 0 ∷ []) 8 1
+    -- "Before a record: 6 more than 4,096 records, 7 depth over 256 (the root is at 1), 1 bytes used up.": 6 and 7 with a record there and without
+    ∷ malformed (unions 12 []) 6 4096 ∷ malformed (1 ∷ 7 ∷ unions 11 []) 6 4096 ∷ malformed (stars 256 (0 ∷ [])) 7 256 ∷ malformed (stars 256 []) 7 256
+    -- "8 bytes left over, place the record count"
+    ∷ malformed (0 ∷ 0 ∷ []) 8 1 ∷ malformed (1 ∷ 14 ∷ 0 ∷ 0 ∷ []) 8 2
     -- "9 allowance outside 1 to 65,535; 10 work memory under 8 × allowance + 8,192 numbers of 32 bits; form"
     ∷ record { term = []; allowance = 0; work = 0; room = 0; number = 9; place = 0 }
     ∷ record { term = []; allowance = 65536; work = workFor 65536; room = 0; number = 9; place = 0 }

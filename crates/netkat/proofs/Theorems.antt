@@ -156,13 +156,17 @@ starred-theorem = starred-probes
 pub further-theorem : map computed further ≡ map stated further
 further-theorem = further-probes
 
--- "Numbers match the Rust's error kinds; places are ours.": each number that Desugar answers, by a small input, with the orders that document
--- 01 names, and the numbers that other operations have
+-- "Numbers match the Rust's error kinds; places are ours.": each number that Desugar answers, by small inputs, with most of the orders that
+-- document 01 names
 pub refusals-theorem : map answered refusals ≡ map refusedBy refusals
 refusals-theorem = refused-probes
 
+-- and what the others answer beside these: Field count 25, Subrange 28; Substitute by form of the term, then of the replacement, 27, then 26
 pub other-refusals-theorem : (fieldsBytes (encode (Plain (Test 4294967295 true))) ≡ refuse 25 0)
-    × (substituteBytes (encode (Unary Star (Var 1))) 1 (stars 255) 7000 ≡ refuse 27 0)
-    × (substituteBytes (encode (Var 1)) 1 [] 7000 ≡ refuse 31 0)
     × (computeSubrange 4 8 1 5 ≡ refuse 28 0)
-other-refusals-theorem = (refl, refl, refl, refl)
+    × (substituteBytes [] 1 [] 7000 ≡ refuse 1 0)
+    × (substituteBytes (encode (Var 1)) 1 [] 7000 ≡ refuse 31 0)
+    × (substituteBytes (encode (Var 1)) 1 (0 ∷ 0 ∷ []) 7000 ≡ refuse 38 1)
+    × (substituteBytes (encode (Unary Star (Var 1))) 1 (stars 255 (0 ∷ [])) 0 ≡ refuse 27 0)
+    × (substituteBytes (encode (Var 1)) 1 (1 ∷ 1 ∷ []) 1 ≡ refuse 26 0)
+other-refusals-theorem = (refl, refl, refl, refl, refl, refl, refl)
