@@ -19,7 +19,7 @@ use Rattle.netkat.specs.Check.{RulesHold, check, firstFailure, sorts, te
 use Rattle.netkat.specs.Points.{Point, Scope, cores, definitions, desugarAt, meanings, meansAt, oneSteps, walk}
 use Rattle.netkat.proofs.Agree.{Seen, agree, refused, seen}
 use Rattle.netkat.proofs.CheckWalk.{check-is-walk, first-failure-append}
-use Rattle.netkat.proofs.Rules.{behind-rule, none-fails, rules-append}
+use Rattle.netkat.proofs.Rules.{behind-rule, none-fails, rules-append, same-refusal, then-same}
 
 -- ## The cores of the variables around
 
@@ -34,16 +34,9 @@ around : {A : Type 0} (ps qs : List Point) (a : Answer A) {x : Answer (Unit {0})
     → andThen (firstFailure (ps ++ qs)) (λ _. a) ≡ andThen x (λ _. andThen (firstFailure qs) (λ _. a))
 around ps qs a e = first-failure-append ps qs a ∙ ap (λ (y : Answer (Unit {0})). andThen y (λ _. andThen (firstFailure qs) (λ _. a))) e
 
-then-tt : (x : Answer (Unit {0})) → andThen x (λ _. ok (tt {0})) ≡ x
-then-tt (ok t) = refl
-then-tt (refuse r at) = refl
-
 pub refusal-of : (s : Bool) {r at : ℕ} (x : Answer (Unit {0})) → andThen x (λ _. ok s) ≡ refuse r at → x ≡ refuse r at
 refusal-of s (ok t) e = let z : _≡_ {A = ℕ} 0 1 = cc in absurd (omega arith)
-refusal-of s (refuse q p) e = go q p _ _ e
-  where
-    go : (q p r at : ℕ) → _≡_ {A = Answer Bool} (refuse q p) (refuse r at) → _≡_ {A = Answer (Unit {0})} (refuse q p) (refuse r at)
-    go q p r at e = cc
+refusal-of s (refuse q p) e = same-refusal e
 
 -- desugaring under cores that have the sorts of the variables around goes as Check does
 pub seen-at : (sc : Scope) (env : Env Core) (e : Expr) (at : ℕ) → mapEnv isTest env ≡ sorts sc → Seen isTest (desugar env e at (spent [])) (check sc e at)
@@ -61,9 +54,9 @@ cored (variable x d ∷ sc) = go (cored sc)
     both : {y : Answer (Unit {0})} → firstFailure (definitions sc) ≡ y
         → firstFailure (definitions sc ++ walk sc (d .0) (d .1)) ≡ andThen y (λ _. firstFailure (walk sc (d .0) (d .1)))
     both {y} f =
-        sym (then-tt (firstFailure (definitions sc ++ walk sc (d .0) (d .1))))
+        sym (then-same (firstFailure (definitions sc ++ walk sc (d .0) (d .1))))
         ∙ around (definitions sc) (walk sc (d .0) (d .1)) (ok (tt {0})) f
-        ∙ ap (λ (z : Answer (Unit {0})). andThen y (λ _. z)) (then-tt (firstFailure (walk sc (d .0) (d .1))))
+        ∙ ap (λ (z : Answer (Unit {0})). andThen y (λ _. z)) (then-same (firstFailure (walk sc (d .0) (d .1))))
 
     own : (env : Env Core) → firstFailure (definitions sc) ≡ ok tt → mapEnv isTest env ≡ sorts sc
         → {y : Answer (Core × Meter)} {z : Answer Bool} → Seen isTest y z → z ≡ check sc (d .0) (d .1)

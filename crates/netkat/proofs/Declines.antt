@@ -14,21 +14,22 @@ use Rattle.literals.proofs.Logic.{and-iff, false-of, leb-is}
 use Rattle.expr.specs.Answers.{Answer, andThen, mapAnswer, need, ok, refuse}
 use Rattle.expr.specs.Form.{decode, encode, encodeCore, maxDepth, maxRecords}
 use Rattle.expr.specs.Operations.{fieldsBytes, fragmentBytes, intoRoom, isTestFragment, numFields, raised, substitute, substituteBytes}
-use Rattle.expr.specs.Terms.{Core, Expr, Name, depth, records}
+use Rattle.expr.specs.Terms.{Expr, Name, depth, records}
 use Rattle.expr.proofs.Refusals.{decode-numbers}
 use Rattle.desugar.specs.Bindings.{computeSubrange}
 use Rattle.desugar.specs.Claims.{Limit}
 use Rattle.desugar.specs.Desugar.{desugar, desugarBytes, workFor}
-use Rattle.desugar.specs.Meter.{Meter, drawn, left, spent}
+use Rattle.desugar.specs.Meter.{drawn, left, spent}
 use Rattle.desugar.specs.Negation.{isTest}
 use Rattle.desugar.proofs.Limit.{Costs, desugar-costs, drawsOf, gives, limit-of, limited, stops}
 use Rattle.netkat.specs.Check.{check, checkBytes, firstFailure, testSort}
-use Rattle.netkat.specs.Claims.{Allowed, Unlimited}
+use Rattle.netkat.specs.Claims.{Allowed}
 use Rattle.netkat.specs.Demands.{CheckDeclined, DesugarDeclined, FieldsDeclined, InLimits, SubrangeInside, SubstituteDeclined}
 use Rattle.netkat.specs.Points.{walk}
 use Rattle.netkat.proofs.AtPoint.{refusal-of, seen-answer, seen-at}
 use Rattle.netkat.proofs.HighestField.{first-highest, first-refused, refused-at-first}
 use Rattle.netkat.proofs.Numbers.{Numbered, failure-numbers}
+use Rattle.netkat.proofs.Rules.{same-refusal, then-same}
 use Rattle.netkat.proofs.Whole.{by-limits, by-room, not-allowed, rest, too-little-memory, unmapped, within-limits}
 
 -- an answer is refused exactly for these causes, and no number is 0
@@ -52,14 +53,6 @@ decided-map f x h =
 
 ok-is-no-refusal : {A : Type 0} {a : A} {k p : ℕ} → ok a ≡ refuse k p → ⊥
 ok-is-no-refusal e = let z : _≡_ {A = ℕ} 0 1 = cc in absurd (omega arith)
-
--- the same number and place, as an answer of another kind
-same-refusal : {A B : Type 0} {q m k p : ℕ} → _≡_ {A = Answer A} (refuse q m) (refuse k p) → _≡_ {A = Answer B} (refuse q m) (refuse k p)
-same-refusal {A} {B} {q} {m} {k} {p} e = let a : q ≡ k = cc in let b : m ≡ p = cc in λ i. refuse (a i) (b i)
-
-then-same : {A : Type 0} (x : Answer A) → andThen x (λ a. ok a) ≡ x
-then-same (ok a) = refl
-then-same (refuse r at) = refl
 
 -- a cause of one number and place is a cause of the number and place that were answered
 at-refusal : {A : Type 0} (D : ℕ → ℕ → Type 0) {q m k p : ℕ} → _≡_ {A = Answer A} (refuse q m) (refuse k p) → D q m → D k p

@@ -1,20 +1,18 @@
 -- The three demands of specs/Demands.antt, from the laws of the definitions.
 use mathlib.Core.Path.{_≡_, refl, sym, ap, subst, _∙_}
 use mathlib.Core.Logic.{_↔_, Iff·trans}
-use mathlib.Core.Bool.{Bool}
-use mathlib.Core.List.{List, [], _∷_, _++_, List·Memᴰ}
+use mathlib.Core.List.{List, [], _∷_, _++_}
 use Prim.Native.Nat.{ℕ, _-_, _≤_}
 use native.Mathlib.Omega.{arith}
 use lib.ListN.{drop, length, take}
 use Rattle.literals.specs.Bits.{bit}
 use Rattle.literals.proofs.Logic.{leb-is}
 use Rattle.expr.specs.Answers.{Answer, andThen, bufferAfter, mapAnswer, ok, refuse}
-use Rattle.expr.specs.Form.{Within, decode, encode, encodeCore}
+use Rattle.expr.specs.Form.{Within, encode, encodeCore}
 use Rattle.expr.specs.Operations.{fieldsBytes, fragmentBytes, substituteBytes}
 use Rattle.expr.specs.Terms.{Core, Expr}
 use Rattle.expr.proofs.FormTheorem.{decode-encode}
 use Rattle.desugar.specs.Bindings.{computeSubrange}
-use Rattle.desugar.specs.Claims.{Limit}
 use Rattle.desugar.specs.Desugar.{desugar, desugarBytes}
 use Rattle.desugar.specs.Meter.{drawn}
 use Rattle.desugar.specs.Packets.{Others}
@@ -23,7 +21,7 @@ use Rattle.netkat.specs.Check.{RulesHold, checkBytes, testSort}
 use Rattle.netkat.specs.Claims.{Desugared, Desugars, Good}
 use Rattle.netkat.specs.Demands.{AtPassing, Covers, Declined, Demand1, Demand2, Demand3, OnGood, WholeTerm}
 use Rattle.netkat.specs.Entry.{Answers, Call, Check, Desugar, FieldCount, Hosts, Subrange, Substitute, TestFragment, hosted}
-use Rattle.netkat.specs.Points.{Point, definitions, desugarAt, walk}
+use Rattle.netkat.specs.Points.{Point, definitions, desugarAt}
 use Rattle.netkat.specs.declared.Answer.{Answer as HostAnswer}
 use Rattle.netkat.proofs.AtPoint.{desugar-at-means, desugar-at-succeeds}
 use Rattle.netkat.proofs.Declines.{Decided, check-decided, decided-map, desugar-decided, fields-decided, fragment-decided, subrange-decided, substitute-decided}

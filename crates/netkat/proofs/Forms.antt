@@ -1,5 +1,5 @@
 -- What desugaring gives of a use of a range: the use's own core, which does what the form says.
-use mathlib.Core.Path.{_≡_, refl, sym, subst, _∙_}
+use mathlib.Core.Path.{_≡_, refl, subst, _∙_}
 use mathlib.Core.Option.{Option, some}
 use mathlib.Core.List.{[], _∷_}
 use Prim.Native.Nat.{ℕ, _-_}

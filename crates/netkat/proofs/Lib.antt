@@ -1,4 +1,4 @@
--- Laws of the definitions and the theorems of demand 3.
+-- Laws of the definitions, and the theorems of the three demands.
 pub mod CheckWalk
 pub mod CheckLeaves
 pub mod CheckLaws

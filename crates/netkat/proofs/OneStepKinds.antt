@@ -1,8 +1,7 @@
 -- Where each record of a subterm and of the definitions around it has a one-step kind, the subterm is one-step where it is used.
-use mathlib.Core.Path.{_≡_, refl}
 use mathlib.Core.Bool.{Bool, true, false, cond}
 use mathlib.Core.Option.{some, Option·getD}
-use mathlib.Core.List.{List, [], _∷_, _++_, List·Memᴰ, List·Memᴰ·head, Memᴰ·append-left, Memᴰ·append-right}
+use mathlib.Core.List.{[], _∷_, Memᴰ·append-left, Memᴰ·append-right}
 use Prim.Native.Nat.{ℕ, _+_}
 use lib.Dec.{eqb}
 use Rattle.expr.specs.Terms.{Binary, Expr, IfThenElse, Let, LetBitRange, Name, Plain, Ranged, TestNegation, Unary, Var, records}

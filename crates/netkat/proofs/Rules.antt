@@ -10,6 +10,14 @@ use Rattle.expr.specs.Terms.{Expr}
 use Rattle.netkat.specs.Check.{RulesHold, check, firstFailure, ruleAt, sorts, testSort}
 use Rattle.netkat.specs.Points.{Point, Scope, walk}
 
+-- the same number and place, as an answer of another kind
+pub same-refusal : {A B : Type 0} {q m k p : ℕ} → _≡_ {A = Answer A} (refuse q m) (refuse k p) → _≡_ {A = Answer B} (refuse q m) (refuse k p)
+same-refusal {A} {B} {q} {m} {k} {p} e = let a : q ≡ k = cc in let b : m ≡ p = cc in λ i. refuse (a i) (b i)
+
+pub then-same : {A : Type 0} (x : Answer A) → andThen x (λ a. ok a) ≡ x
+then-same (ok a) = refl
+then-same (refuse r at) = refl
+
 -- the first failure is none exactly where no rule fails
 pub none-fails : (ps : List Point) → (firstFailure ps ≡ ok tt) ↔ RulesHold ps
 none-fails [] = ((λ e p m. absurd (List·Memᴰ·not-nil m)), (λ h. refl))

@@ -24,7 +24,7 @@ use Rattle.netkat.specs.Claims.{Allowed, Desugared, Desugars, Good, Outc
 use Rattle.netkat.specs.Points.{walk}
 use Rattle.netkat.proofs.Agree.{Seen, refused, seen}
 use Rattle.netkat.proofs.AtPoint.{seen-answer, seen-at, then-ok}
-use Rattle.netkat.proofs.Rules.{behind-rule, check-succeeds, none-fails}
+use Rattle.netkat.proofs.Rules.{behind-rule, check-succeeds, none-fails, same-refusal}
 
 -- Check succeeds exactly there, and says whether the term is a test
 pub check-bytes : (bs : List ℕ) (s : Bool) → (checkBytes bs ≡ ok s) ↔ ((e : Expr) × Good bs e × (s ≡ testSort [] e))
@@ -173,7 +173,7 @@ desugared-bytes bs n work room out m h =
 -- a refusal is the same refusal whatever is seen of a result
 pub unmapped : {A B : Type 0} (f : A → B) (x : Answer A) {r p : ℕ} → mapAnswer f x ≡ refuse r p → x ≡ refuse r p
 unmapped f (ok a) h = let z : _≡_ {A = ℕ} 0 1 = cc in absurd (omega arith)
-unmapped f (refuse q m) {r} {p} h = let a : q ≡ r = cc in let b : m ≡ p = cc in λ i. refuse (a i) (b i)
+unmapped f (refuse q m) h = same-refusal h
 
 -- Desugar refuses what Check refuses
 pub refused-bytes : (bs : List ℕ) (r p : ℕ) → checkBytes bs ≡ refuse r p → (n work room : ℕ) → Refusal bs r p n work (desugarBytes bs n work room)
