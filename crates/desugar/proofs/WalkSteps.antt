@@ -17,7 +17,7 @@ use Rattle.desugar.specs.declared.went.Went.{Went}
 use Rattle.desugar.specs.declared.went.Walked.{Walked}
 use Rattle.desugar.proofs.Regions.{kept-all, kept-less}
 use Rattle.desugar.proofs.Closing.{one-operand}
-use Rattle.desugar.proofs.WalkLaws.{stack-moved, ready-first, Visited, Settled, wider, then-ok}
+use Rattle.desugar.proofs.WalkLaws.{stack-moved, ready-first, Visited, wider, then-ok}
 
 -- what is asked of the first operand, which is worked out a little above the top
 abbrev pub first-ready : {s xs : List ℕ} {from l last top a : ℕ} {env : Env Core} (place top′ : ℕ) (e : Expr) (es : List Expr)
@@ -25,10 +25,6 @@ abbrev pub first-ready : {s xs : List ℕ} {from l last top a : ℕ} {env : Env 
     → Ready s from l (place + 1) last top′ a xs
 first-ready {xs = xs} {last = last} place top′ e es t k low high =
     ready-first e es t (stack-moved k (kept-all last xs) (omega arith) (omega (arith, k .below)) (omega arith))
-
--- a walk's result once its core is moved
-abbrev pub after : Went → ℕ → Went
-after w at = record { used = w .used; next = w .next; at = at; count = w .count; left = w .left }
 
 -- ## One operand
 
@@ -41,21 +37,18 @@ module _ {s xs : List ℕ} {from l last top a : ℕ} (place : ℕ) (q : ReadyOne
   Told e ys r =
       WalkedAs (desugar (q .env) e place (left a)) (from + length (encode (q .first))) (place + 1 + records (q .first)) top a (l + 1) xs ys r
 
-  abbrev pub Sunk : List ℕ → Went → ℕ → Type 0
-  Sunk xs₂ w at = Settled x₁ (from + length (encode (q .first))) (place + 1 + records (q .first)) at a xs xs₂ w
-
   abbrev pub Arrived : List ℕ → Went → ℕ → Type 0
   Arrived xs₁ w top′ = Came x₁ (from + length (encode (q .first))) (place + 1 + records (q .first)) top′ a l xs xs₁ w
 
   -- Complement, Star, LtlNext: a record below the operand
-  pub unary-done : {kind : ℕ} {w : Went} (xs₂ xs₃ : List ℕ) (r : Walked) (k : Operator1 kind) → Sunk xs₂ w (top + 3)
-      → ((c : Core) → Operands c kind (after w (top + 3)) xs₂
-      → WalkedAs (drawing 1 place c (left (w .left))) (w .used) (w .next) (top + 3 - 3) (w .count + w .left) 0 xs₂ xs₃ r)
-      → Told (Unary (k .o) (q .first)) xs₃ r
-  unary-done {w = w} xs₂ xs₃ r k c seal =
+  pub unary-done : {kind : ℕ} {w : Went} (xs₁ xs₂ : List ℕ) (r : Walked) (k : Operator1 kind) → Arrived xs₁ w (top + 3)
+      → ((c : Core) → Operands c kind w xs₁
+      → WalkedAs (drawing 1 place c (left (w .left))) (w .used) (w .next) (w .at - 3) (w .count + w .left) 0 xs₁ xs₂ r)
+      → Told (Unary (k .o) (q .first)) xs₂ r
+  unary-done {w = w} xs₁ xs₂ r k c seal =
       wider (desugar (q .env) (Unary (k .o) (q .first)) place (left a)) (drawing 1 place (one (k .o) (c .core)) (left (w .left)))
-      (from + length (encode (q .first))) (w .used) (place + 1 + records (q .first)) (w .next) top (top + 3 - 3) a (w .count + w .left) (l + 1) 0
-      xs xs₂ xs₃ r (then-ok _ (c .is)) (c .used-is) (c .next-is) (omega arith) (omega (arith, c .drawn)) (c .drawn)
+      (from + length (encode (q .first))) (w .used) (place + 1 + records (q .first)) (w .next) top (w .at - 3) a (w .count + w .left) (l + 1) 0
+      xs xs₁ xs₂ r (then-ok _ (c .is)) (c .used-is) (c .next-is) (omega (arith, c .above)) (omega (arith, c .reach, c .above)) (c .drawn)
       (kept-less (omega arith) (c .kept))
       (seal (one (k .o) (c .core))
       (one-operand (k .o) (c .core) (k .is) (c .lies)))

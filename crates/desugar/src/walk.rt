@@ -5,7 +5,6 @@ ghost use Rattle.expr.specs.Terms.{Unary, Binary, TestNegation, IfThenElse, Let
 ghost use Rattle.desugar.specs.WalkWords.{Ready, ReadyOne, ReadyTwo, ReadyThree, ReadyElse, Operator1, Operator2, TermWalked, OneWalked, TwoWalked, ThreeWalked, ElseWalked};
 use crate::bindings::Bindings;
 use crate::went::Walked;
-use crate::went::Went;
 use expr::records::HeadRead;
 
 // The core of the term that begins at the byte `at`, of at most `left` levels, whose first record has the index `place`: under the
@@ -74,7 +73,7 @@ pub(crate) fn desugar_with_env(
     }
 }
 
-// Complement, Star, LtlNext.
+// Complement, Star, LtlNext: the record goes right below its operand, wherever that lies.
 fn unary(
     kind: u8,
     s: &[u8],
@@ -103,16 +102,7 @@ fn unary(
         Walked::Refused(number, at) => return Walked::Refused(number, at),
         Walked::Done(a) => a,
     };
-    let at = top + 3;
-    crate::went::settle(&mut *work, a.at, at, a.count);
-    let went = Went {
-        used: a.used,
-        next: a.next,
-        at,
-        count: a.count,
-        left: a.left,
-    };
-    crate::went::seal(kind, place, work, went)
+    crate::went::seal(kind, place, work, a)
 }
 
 // TestNegation.

@@ -32,7 +32,7 @@ use LetBitRange.{let-bit-range-with-alias-requires, let-bit-range-add-desugar-wi
 use LetVariable.{let-variable-add-desugar-with-env, let-variable-desugar-with-env-requires, let-variable-enum-known-number, let-variable-same-length, let-variable-returns, let-variable-enum-known-d, let-variable-settle-requires, let-variable-mul-end, let-variable-add-end, let-variable-with-variable-requires, let-variable-add-desugar-with-env-2, let-variable-desugar-with-env-requires-2, let-variable-same-length-2, let-variable-returns-2}
 use Otherwise.{otherwise-add-to, otherwise-mul-to, otherwise-add-to-2, otherwise-mul-to-2, otherwise-add-to-3, otherwise-add-modes, otherwise-add-negation, otherwise-add-negation-2, otherwise-negation-requires, otherwise-negated-size-requires, otherwise-mul-above, otherwise-add-above, otherwise-desugar-with-env-requires, otherwise-enum-known-number, otherwise-same-length, otherwise-returns, otherwise-enum-known-e, otherwise-choose-requires, otherwise-same-length-2, otherwise-returns-2}
 use TestNegation.{test-negation-add-desugar-with-env, test-negation-desugar-with-env-requires, test-negation-enum-known-number, test-negation-same-length, test-negation-returns, test-negation-enum-known-a, test-negation-negate-core-requires, test-negation-same-length-2, test-negation-returns-2}
-use Unary.{unary-add-desugar-with-env, unary-add-desugar-with-env-2, unary-desugar-with-env-requires, unary-enum-known-number, unary-same-length, unary-returns, unary-enum-known-a, unary-add-at, unary-settle-requires, unary-seal-requires, unary-same-length-2, unary-returns-2}
+use Unary.{unary-add-desugar-with-env, unary-add-desugar-with-env-2, unary-desugar-with-env-requires, unary-enum-known-number, unary-same-length, unary-returns, unary-enum-known-a, unary-seal-requires, unary-same-length-2, unary-returns-2}
 use Rattle.desugar.proofs.walk.+binary+desugar_with_env+if_then_else+let_bit_range+let_variable+otherwise+test_negation+unary.{statement}
 use Rattle.desugar.proofs.walk.+binary+desugar_with_env+if_then_else+let_bit_range+let_variable+otherwise+test_negation+unary.Tie.{close}
 
@@ -45,4 +45,4 @@ pub +binary+desugar-with-env+if-then-else+let-bit-range+let-variable+otherwise+t
     (λ t. let-variable-lts.spec (let-variable-claims t) (let-variable-at t) let-variable.Post (let-variable-add-desugar-with-env t) (let-variable-desugar-with-env-requires t) (let-variable-enum-known-number t) (let-variable-same-length t) (let-variable-returns t) (let-variable-enum-known-d t) (let-variable-settle-requires t) (let-variable-mul-end t) (let-variable-add-end t) (let-variable-with-variable-requires t) (let-variable-add-desugar-with-env-2 t) (let-variable-desugar-with-env-requires-2 t) (let-variable-same-length-2 t) (let-variable-returns-2 t))
     (λ t. otherwise-lts.spec (otherwise-claims t) (otherwise-at t) otherwise.Post (otherwise-add-to t) (otherwise-mul-to t) (otherwise-add-to-2 t) (otherwise-mul-to-2 t) (otherwise-add-to-3 t) (otherwise-add-modes t) (otherwise-add-negation t) (otherwise-add-negation-2 t) (otherwise-negation-requires t) (otherwise-negated-size-requires t) (otherwise-mul-above t) (otherwise-add-above t) (otherwise-desugar-with-env-requires t) (otherwise-enum-known-number t) (otherwise-same-length t) (otherwise-returns t) (otherwise-enum-known-e t) (otherwise-choose-requires t) (otherwise-same-length-2 t) (otherwise-returns-2 t))
     (λ t. test-negation-lts.spec (test-negation-claims t) (test-negation-at t) test-negation.Post (test-negation-add-desugar-with-env t) (test-negation-desugar-with-env-requires t) (test-negation-enum-known-number t) (test-negation-same-length t) (test-negation-returns t) (test-negation-enum-known-a t) (test-negation-negate-core-requires t) (test-negation-same-length-2 t) (test-negation-returns-2 t))
-    (λ t. unary-lts.spec (unary-claims t) (unary-at t) unary.Post (unary-add-desugar-with-env t) (unary-add-desugar-with-env-2 t) (unary-desugar-with-env-requires t) (unary-enum-known-number t) (unary-same-length t) (unary-returns t) (unary-enum-known-a t) (unary-add-at t) (unary-settle-requires t) (unary-seal-requires t) (unary-same-length-2 t) (unary-returns-2 t))
+    (λ t. unary-lts.spec (unary-claims t) (unary-at t) unary.Post (unary-add-desugar-with-env t) (unary-add-desugar-with-env-2 t) (unary-desugar-with-env-requires t) (unary-enum-known-number t) (unary-same-length t) (unary-returns t) (unary-enum-known-a t) (unary-seal-requires t) (unary-same-length-2 t) (unary-returns-2 t))

@@ -134,4 +134,4 @@ abbrev pub test-negation-claims : ℕ → test-negation-lts.Claims
 test-negation-claims t = (desugar-with-env-below t, desugar-with-env.Post, negate-core-reads.Asked, negate-core-reads.Learnt)
 
 abbrev pub unary-claims : ℕ → unary-lts.Claims
-unary-claims t = (desugar-with-env-below t, desugar-with-env.Post, settle-reads.Asked, settle-reads.Learnt, seal-reads.Asked, seal-reads.Learnt)
+unary-claims t = (desugar-with-env-below t, desugar-with-env.Post, seal-reads.Asked, seal-reads.Learnt)

@@ -5,8 +5,8 @@ use mathlib.Core.List.{List, []}
 use Prim.Native.Nat.{ℕ, _+_}
 use Rattle.desugar.specs.WalkWords.{Ready, ReadyOne}
 use Rattle.desugar.specs.declared.went.Went.{Went}
-use Rattle.desugar.proofs.WalkLaws.{lies-inside, came, stopped, settled, then-refused}
-use Rattle.desugar.proofs.WalkSteps.{first-ready, Arrived, Sunk, unary-done}
+use Rattle.desugar.proofs.WalkLaws.{lies-inside, came, stopped, then-refused}
+use Rattle.desugar.proofs.WalkSteps.{first-ready, Arrived, unary-done}
 use Rattle.desugar.proofs.walk.unary.Reads as unary
 use Rattle.desugar.proofs.walk.+binary+desugar_with_env+if_then_else+let_bit_range+let_variable+otherwise+test_negation+unary.Lts-unary as unary-lts
 use Rattle.desugar.proofs.walk.+binary+desugar_with_env+if_then_else+let_bit_range+let_variable+otherwise+test_negation+unary.Proof.Common.{unary-claims, unary-at}
@@ -37,16 +37,6 @@ module _ (t : ℕ) where
   came-at : (c : Had) (q : Q (start c)) → Arrived (start c .args .place) q (m₁ c) (went c) (start c .args .top + 3)
   came-at c q = came (m₁ c) _ (child (start c) q) (c .before .before .before .before .before .desugar-with-env .ensures) (c .before .a .given .1)
 
-  -- and it is settled
-  abbrev Sat : Type 0
-  Sat = unary-lts.After-settle (unary-claims t) (unary-at t) unary.Post
-
-  abbrev had : Sat → Had
-  had c = c .before .before
-
-  sunk : (c : Sat) (q : Q (start (had c))) → Sunk (start (had c) .args .place) q (c .settle .last .0) (went (had c)) (start (had c) .args .top + 3)
-  sunk c q = settled (came-at (had c) q) (c .settle .ensures .0) (c .settle .ensures .1)
-
   pub unary-add-desugar-with-env : unary-lts.Need-add-desugar-with-env (unary-claims t) (unary-at t) unary.Post
   unary-add-desugar-with-env c = search needs
 
@@ -68,17 +58,11 @@ module _ (t : ℕ) where
   pub unary-enum-known-a : unary-lts.Need-enum-known-a (unary-claims t) (unary-at t) unary.Post
   unary-enum-known-a c = search needs
 
-  pub unary-add-at : unary-lts.Need-add-at (unary-claims t) (unary-at t) unary.Post
-  unary-add-at c = search needs
-
-  pub unary-settle-requires : unary-lts.Need-settle-requires (unary-claims t) (unary-at t) unary.Post
-  unary-settle-requires c κs = let d = came-at (c .before) (c .before .before .before .before .before .before .before .before .before .before .pre .1 .1) in (d .above, lies-inside (d .lies))
-
   pub unary-seal-requires : unary-lts.Need-seal-requires (unary-claims t) (unary-at t) unary.Post
-  unary-seal-requires c κs = let d = sunk (c .before .before .before) (c .before .before .before .before .before .before .before .before .before .before .before .before .before .before .pre .1 .1) in (omega arith, lies-inside (d .lies))
+  unary-seal-requires c κs = let d = came-at (c .before) (c .before .before .before .before .before .before .before .before .before .before .pre .1 .1) in (omega (arith, d .above), lies-inside (d .lies))
 
   pub unary-same-length-2 : unary-lts.Need-same-length-2 (unary-claims t) (unary-at t) unary.Post
   unary-same-length-2 c = search needs
 
   pub unary-returns-2 : unary-lts.Need-returns-2 (unary-claims t) (unary-at t) unary.Post
-  unary-returns-2 c = λ k q. unary-done (c .before .before .before .before .before .before .before .before .before .before .before .before .before .before .before .before .before .args .place) q _ (c .before .before .seal .last .1 .1 .0) (c .before .before .seal .result) k (sunk (c .before .before .before .before .before .before) q) (c .before .before .seal .ensures)
+  unary-returns-2 c = λ k q. unary-done (c .before .before .before .before .before .before .before .before .before .before .before .before .before .args .place) q _ (c .before .before .seal .last .1 .1 .0) (c .before .before .seal .result) k (came-at (c .before .before .before .before) q) (c .before .before .seal .ensures)
