@@ -101,25 +101,37 @@ trees-step : (d n at : ℕ) (bs : List ℕ) → (n ≡ 0 → ⊥) → treesFrom 
 trees-step d zero at bs f = absurd (f refl)
 trees-step d (suc n) at bs f = rw (sub-one (suc n))
 
--- the first of n trees was looked for, at the front of the bytes bs that are left of s
-pub record Begun (d n at : ℕ) (bs s : List ℕ) (x : Formed) : Type 0 where
-  pub some : n ≡ 0 → ⊥
-  pub formed : TreeFormed (treeFrom d at bs) s x
+-- of n trees from the byte a and the record at on, m are due, from the byte u and the record next on: what comes of those is what comes of all
+pub record Due (d n at a m next u : ℕ) (s : List ℕ) : Type 0 where
+  pub asked : TreesAsked m u next s
+  pub whole : (y : Formed) → TreeFormed (treesFrom d m next (drop u s)) s y → TreeFormed (treesFrom d n at (drop a s)) s y
 
-module _ {d n at : ℕ} {bs s : List ℕ} {x : Formed} (k : Begun d n at bs s x) where
-  pub first : {y : Formed} → x ≡ y → TreeFormed (treeFrom d at bs) s y
-  first e = subst (TreeFormed _ s) e (k .formed)
+pub all-due : {d n at a : ℕ} {s : List ℕ} → TreesAsked n a at s → Due d n at a n at a s
+all-due k = record { asked = k; whole = λ y h. h }
 
-  others : {y : Formed} → x ≡ y → andThen (treeAnswer s y) (λ r. treesFrom d (n - 1) (r .0) (r .1)) ≡ treesFrom d n at bs
-  others e = ap (λ (z : Answer (ℕ × List ℕ)). andThen z (λ r. treesFrom d (n - 1) (r .0) (r .1))) (first e .answer) ∙ sym (trees-step d n at bs (k .some))
+module _ {d n at a m next u : ℕ} {s : List ℕ} (k : Due d n at a m next u s) where
+  pub none-due : m ≤ 0 → TreeFormed (treesFrom d n at (drop a s)) s (Good (record { used = u; next = next }))
+  none-due none = k .whole _ (no-tree d (omega (arith, none)) (k .asked))
 
-  pub first-refused : {r p : ℕ} → x ≡ Refused r p → TreeFormed (treesFrom d n at bs) s (Refused r p)
-  first-refused e = record { answer = others e; inside = first e .inside }
+  -- the first of those that are due was looked for
+  module _ (some : 0 < m) {x : Formed} (formed : TreeFormed (treeFrom d next (drop u s)) s x) where
+    first : {y : Formed} → x ≡ y → TreeFormed (treeFrom d next (drop u s)) s y
+    first e = subst (TreeFormed _ s) e formed
 
-  -- the answer on the others is the answer on all
-  pub first-good : {t : Taken} {y : Formed} → x ≡ Good t → TreeFormed (treesFrom d (n - 1) (t .next) (drop (t .used) s)) s y
-      → TreeFormed (treesFrom d n at bs) s y
-  first-good {t} {y} e f = subst (λ z. TreeFormed z s y) (others e) f
+    others : {y : Formed} → x ≡ y → andThen (treeAnswer s y) (λ r. treesFrom d (m - 1) (r .0) (r .1)) ≡ treesFrom d m next (drop u s)
+    others e =
+        ap (λ (z : Answer (ℕ × List ℕ)). andThen z (λ r. treesFrom d (m - 1) (r .0) (r .1))) (first e .answer)
+        ∙ sym (trees-step d m next (drop u s) (λ h. omega (arith, some, h)))
+
+    pub due-refused : {r p : ℕ} → x ≡ Refused r p → TreeFormed (treesFrom d n at (drop a s)) s (Refused r p)
+    due-refused e = k .whole _ (record { answer = others e; inside = first e .inside })
+
+    pub due-good : {t : Taken} → x ≡ Good t → Due d n at a (m - 1) (t .next) (t .used) s
+    due-good e =
+        record {
+          asked = record { few = omega (arith, k .asked .few); start = first e .inside .0; low = first e .inside .1 };
+          whole = λ y h. k .whole y (subst (λ z. TreeFormed z s y) (others e) h);
+        }
 
 -- ## The whole term
 

@@ -126,13 +126,12 @@ module _ {s : List ℕ} {was : Went} {n left : ℕ} {first others : Bool} {j : J
 
       -- what comes of the others is what comes of all
       pub rest-done : {out₂ : List ℕ} {r : Went}
-          → ((b : ReadyAll s next-went (n - 1) left others others j w out₁)
-          → DoneAll (b .terms) (swapAll (j .name) (b .by) others others (b .terms)) j out₁ out₂ next-went r)
+          → DoneAll (rest-ready .terms) (swapAll (j .name) (rest-ready .by) others others (rest-ready .terms)) j out₁ out₂ next-went r
           → DoneAll (q .terms) (swapAll (j .name) (q .by) first others (q .terms)) j out out₂ was r
       unfolding rest-ready
       rest-done {out₂} {r} others-done =
           let d = first-done in
-          let b : DoneAll fs fs′ j out₁ out₂ next-went r = others-done rest-ready in
+          let b : DoneAll fs fs′ j out₁ out₂ next-went r = others-done in
           record {
             used = omega (arith, b .used, d .used, bytes-all);
             next = omega (arith, b .next, d .next, long-all);
@@ -143,3 +142,36 @@ module _ {s : List ℕ} {was : Went} {n left : ℕ} {first others : Bool} {j : J
                 ∙ pasted-more (j .write) (was .to) (encode f′) (encodeAll fs′) out (λ t. omega (arith, q .room t, long-all))
                 ∙ ap (λ es. pasted (j .write) (was .to) (encodeAll es) out) (sym swapped);
           }
+
+-- ## Some of several
+
+-- of n terms behind what was done, m are due behind what is done: what comes of those is what comes of all
+pub record Due (s : List ℕ) (was : Went) (n left : ℕ) (first others : Bool) (j : Job) (w out : List ℕ) (done : Went) (m : ℕ) (live : Bool) (out₁ : List ℕ) : Type 0 where
+  pub same : length out₁ ≡ length out
+  pub asked : ReadyAll s done m left live others j w out₁
+  pub whole : (q : ReadyAll s was n left first others j w out) → (b : ReadyAll s done m left live others j w out₁) × ((out₂ : List ℕ) (r : Went)
+      → DoneAll (b .terms) (swapAll (j .name) (b .by) live others (b .terms)) j out₁ out₂ done r
+      → DoneAll (q .terms) (swapAll (j .name) (q .by) first others (q .terms)) j out out₂ was r)
+
+pub all-due : {s : List ℕ} {was : Went} {n left : ℕ} {first others : Bool} {j : Job} {w out : List ℕ} → ReadyAll s was n left first others j w out
+    → Due s was n left first others j w out was n first out
+all-due k = record { same = refl; asked = k; whole = λ q. (q, λ out₂ r d. d) }
+
+module _ {s : List ℕ} {was : Went} {n left : ℕ} {first others : Bool} {j : Job} {w out : List ℕ} {done : Went} {m : ℕ} {live : Bool} {out₁ : List ℕ}
+    (k : Due s was n left first others j w out done m live out₁) where
+  pub none-due : m ≤ 0 → (q : ReadyAll s was n left first others j w out)
+      → DoneAll (q .terms) (swapAll (j .name) (q .by) first others (q .terms)) j out out₁ was done
+  none-due none q = let b = k .whole q in b .1 out₁ done (none-done (b .0) (omega (arith, none)))
+
+  -- the first of those that are due is done
+  pub due-again : (some : 0 < m) {out₂ : List ℕ} {a : Went} (same : length out₂ ≡ length out₁)
+      (walked : (b : Ready (part (done .used) s) left live j w out₁ (done .to)) → Done (b .term) (swap (j .name) (b .by) live (b .term)) j out₁ out₂ (done .to) a)
+      {d : ℕ} (most : d ≡ max (done .depth) (1 + a .depth))
+      → Due s was n left first others j w out (record { used = done .used + a .used; to = a .to; records = done .records + a .records; depth = d }) (m - 1) others out₂
+  due-again some same walked most =
+      let due : m ≡ 0 → ⊥ = λ h. omega (arith, some, h) in
+      record {
+        same = same ∙ k .same;
+        asked = rest-ready (k .asked) due same walked most;
+        whole = λ q. let b = k .whole q in (rest-ready (b .0) due same walked most, λ out₃ r d. b .1 out₃ r (rest-done (b .0) due same walked most d));
+      }

@@ -66,17 +66,19 @@ fn trees(s: &[u8], at: usize, count: usize, left: usize, place: usize) -> Formed
     requires { ⌜ TreesAsked count at place (now s) ⌝ }
     ensures { λ r. ⌜ TreeFormed (treesFrom left count place (drop at (now (s .entry)))) (now (s .entry)) r ⌝ }
 {
-    if count == 0 {
-        return Formed::Good(Taken {
-            used: at,
-            next: place,
-        });
+    let mut used = at;
+    let mut next = place;
+    let mut due = count;
+    while 0 < due {
+        let a = match tree(s, used, left, next) {
+            Formed::Refused(number, p) => return Formed::Refused(number, p),
+            Formed::Good(a) => a,
+        };
+        used = a.used;
+        next = a.next;
+        due -= 1;
     }
-    let a = match tree(s, at, left, place) {
-        Formed::Refused(number, p) => return Formed::Refused(number, p),
-        Formed::Good(a) => a,
-    };
-    trees(s, a.used, count - 1, left, a.next)
+    Formed::Good(Taken { used, next })
 }
 
 // The form of a whole term.

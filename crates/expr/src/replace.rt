@@ -134,20 +134,25 @@ fn walk_all(
     ensures { λ r. ⌜ ((q : ReadyAll (now (s .entry)) done count left first others job (now (by .entry)) (now (out .entry)))
         → DoneAll (q .terms) (swapAll (job .name) (q .by) first others (q .terms)) job (now (out .entry)) (now (out .exit)) done r) ⌝ }
 {
-    if count == 0 {
-        return done;
+    let mut done = done;
+    let mut live = first;
+    let mut due = count;
+    while 0 < due {
+        let used = done.used;
+        let a = walk(&s[used..], left, live, job, by, &mut *out, done.to);
+        let depth = larger(done.depth, 1 + a.depth);
+        let records = done.records + a.records;
+        let behind = used + a.used;
+        done = Went {
+            used: behind,
+            to: a.to,
+            records,
+            depth,
+        };
+        live = others;
+        due -= 1;
     }
-    let used = done.used;
-    let a = walk(&s[used..], left, first, job, by, &mut *out, done.to);
-    let depth = larger(done.depth, 1 + a.depth);
-    let records = done.records + a.records;
-    let next = Went {
-        used: used + a.used,
-        to: a.to,
-        records,
-        depth,
-    };
-    walk_all(s, next, count - 1, left, others, others, job, by, out)
+    done
 }
 
 // A term of good form with the variable replaced by another: the result is measured, and written where it fits.

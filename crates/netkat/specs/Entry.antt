@@ -1,6 +1,6 @@
 -- The answers that a host gets (document 01, "What each operation gives, and when it declines").
 use mathlib.Core.{Path._≡_, List.List}
-use Prim.Native.Nat.{ℕ}
+use Prim.Native.Nat.{ℕ, _+_, _*_}
 use lib.{ListN.length}
 use Rattle.literals.specs.{Bits.bit}
 use Rattle.expr.specs.{Answers.Answer, Answers.ok, Answers.refuse, Answers.mapAnswer, Answers.bufferAfter, Terms.Name, Operations.fragmentBytes, Operations.fieldsBytes, Operations.substituteBytes}
@@ -35,3 +35,7 @@ Answers (FieldCount bs) out out′ r = (r ≡ hosted (mapAnswer (λ n. (n, 0)) (
 Answers (Desugar bs n work) out out′ r = Hosts (desugarBytes bs n work (length out)) out out′ r
 Answers (Substitute bs x rs) out out′ r = Hosts (mapAnswer (λ cs. (cs, 0)) (substituteBytes bs x rs (length out))) out out′ r
 Answers (Subrange a b s e) out out′ r = (r ≡ hosted (computeSubrange a b s e)) × (out′ ≡ out)
+
+-- this library's version, 0.1.0, as one number, for a host to compare with that of its header. Ours: no sentence of document 01 asks for it
+abbrev pub version : ℕ
+version = 0 * 65536 + 1 * 256 + 0

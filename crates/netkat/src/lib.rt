@@ -3,8 +3,9 @@ mod answers;
 mod check;
 pub mod operations;
 
+ghost use mathlib.Core.Path.{_≡_};
 ghost use mathlib.Core.List.{[]};
-ghost use Rattle.netkat.specs.Entry.{Answers, Call};
+ghost use Rattle.netkat.specs.Entry.{Answers, Call, version};
 use desugar::Subrange;
 
 // What a call answers. Success has number 0, place 0 and the operation's values, 0 where it has none; a refusal has its number and
@@ -41,4 +42,12 @@ pub extern "C" fn netkat_compute_subrange(
             second: 0,
         },
     }
+}
+
+// The version of this library.
+#[no_mangle]
+pub extern "C" fn netkat_version() -> u32
+    ensures { λ r. ⌜ r ≡ version ⌝ }
+{
+    256
 }

@@ -8,7 +8,7 @@ use Rattle.expr.proofs.form.trees.Reads as trees
 use Rattle.expr.proofs.form.+tree+trees.Lts-trees as trees-lts
 use Common.{μ-tree, tree-claims, tree-at, μ-trees, trees-claims, trees-at}
 use Tree.{tree-returns, tree-returns-2, tree-sub-read-record, tree-part-read-record-start, tree-part-read-record-end, tree-read-record-requires, tree-enum-known-number, tree-returns-3, tree-enum-known-head, tree-add-behind, tree-add-next, tree-arity-requires, tree-returns-4, tree-sub-trees, tree-trees-requires, tree-returns-5}
-use Trees.{trees-returns, trees-tree-requires, trees-enum-known-number, trees-returns-2, trees-enum-known-a, trees-sub-trees, trees-trees-requires, trees-returns-3}
+use Trees.{trees-Inv-loop, trees-μ-loop, trees-loop-holds, trees-tree-requires, trees-enum-known-number, trees-returns, trees-enum-known-a, trees-sub-due, trees-loop-less, trees-loop-again, trees-returns-2}
 use Rattle.expr.proofs.form.+tree+trees.{statement}
 use Rattle.expr.proofs.form.+tree+trees.Tie.{close}
 
@@ -19,6 +19,6 @@ pub +tree+trees-spec : {M : Type 1} → statement M
     (tree-part-read-record-end t) (tree-read-record-requires t) (tree-enum-known-number t)
     (tree-returns-3 t) (tree-enum-known-head t) (tree-add-behind t) (tree-add-next t) (tree-arity-requires t)
     (tree-returns-4 t) (tree-sub-trees t) (tree-trees-requires t) (tree-returns-5 t))
-    (λ t. trees-lts.spec (trees-claims t) (trees-at t) trees.Post
-    (trees-returns t) (trees-tree-requires t) (trees-enum-known-number t) (trees-returns-2 t) (trees-enum-known-a t)
-    (trees-sub-trees t) (trees-trees-requires t) (trees-returns-3 t))
+    (λ t. trees-lts.spec (trees-claims t) (trees-at t) trees.Post trees-Inv-loop trees-μ-loop
+    (trees-loop-holds t) (trees-tree-requires t) (trees-enum-known-number t) (trees-returns t) (trees-enum-known-a t)
+    (trees-sub-due t) (trees-loop-less t) (trees-loop-again t) (trees-returns-2 t))

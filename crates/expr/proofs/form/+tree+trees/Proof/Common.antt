@@ -1,4 +1,4 @@
--- The measures and claims of the cycle: 4 for each level that is left, and 1 for each tree that is still to be read on it, at most three.
+-- The measures and claims of the cycle: 2 for each level that is left, and 1 for the trees on it.
 use Prim.Native.Nat.{ℕ, _+_, _*_, _<_}
 use borrow.Fn.Kinds.{In}
 use borrow.Fn.PlainCycle.{Measures, is, falls, and}
@@ -12,10 +12,10 @@ use Rattle.expr.proofs.form.arity.Reads as arity-reads
 use Rattle.expr.proofs.records.read_record.Reads as read-record-reads
 
 abbrev pub μ-tree : Measures 1 tree-kinds.ps ℕ
-μ-tree κs a = 4 * a .1 .1 .0
+μ-tree κs a = 2 * a .1 .1 .0
 
 abbrev pub μ-trees : Measures 1 trees-kinds.ps ℕ
-μ-trees κs a = 4 * a .1 .1 .1 .0 + a .1 .1 .0
+μ-trees κs a = 2 * a .1 .1 .1 .0 + 1
 
 abbrev pub tree-at : ℕ → In 1 tree-kinds.ps
 tree-at t = and 1 tree-kinds.ps (is 1 tree-kinds.ps μ-tree t) tree.Pre
@@ -33,4 +33,4 @@ abbrev pub tree-claims : ℕ → tree-lts.Claims
 tree-claims t = (read-record-reads.Asked, read-record-reads.Learnt, arity-reads.Asked, arity-reads.Learnt, trees-below t, trees.Post)
 
 abbrev pub trees-claims : ℕ → trees-lts.Claims
-trees-claims t = (tree-below t, tree.Post, trees-below t, trees.Post)
+trees-claims t = (tree-below t, tree.Post)

@@ -3,44 +3,41 @@ use borrow.Author.Needs.{needs}
 use native.Mathlib.Omega.{arith}
 use Prim.Native.Nat.{ℕ}
 use lib.ListN.{drop}
-use Rattle.expr.proofs.FormSteps.{no-tree, Begun, first, first-refused, first-good}
+use Rattle.expr.proofs.FormSteps.{Due, all-due, none-due, due-refused, due-good}
 use Rattle.expr.proofs.form.trees.Reads as trees
 use Rattle.expr.proofs.form.+tree+trees.Lts-trees as trees-lts
 use Rattle.expr.proofs.form.+tree+trees.Proof.Common.{trees-claims, trees-at}
 
+abbrev pub trees-Inv-loop : trees-lts.InvT-loop
+trees-Inv-loop s at count left place used₀ next₀ due₀ used next due = Due left count place at due next used s
+
+abbrev pub trees-μ-loop : trees-lts.MeasureT-loop
+trees-μ-loop s at count left place used₀ next₀ due₀ used next due = due
+
 module _ (t : ℕ) where
-  -- the first tree was looked for
-  abbrev First : Type 0
-  First = trees-lts.After-tree (trees-claims t) (trees-at t) trees.Post
+  pub trees-loop-holds : trees-lts.Need-loop-holds (trees-claims t) (trees-at t) trees.Post trees-Inv-loop trees-μ-loop
+  trees-loop-holds c = all-due (c .before .pre .1)
 
-  abbrev start : First → trees-lts.Start (trees-claims t) (trees-at t) trees.Post
-  start c = c .before .before .before
+  pub trees-tree-requires : trees-lts.Need-tree-requires (trees-claims t) (trees-at t) trees.Post trees-Inv-loop trees-μ-loop
+  trees-tree-requires c κs = (omega arith, c .before .loop .inv .asked .start)
 
-  begun : (c : First) → Begun (start c .args .left) (start c .args .count) (start c .args .place) (drop (start c .args .at) (start c .args .s .now)) (start c .args .s .now) (c .tree .result)
-  begun c = record { some = c .before .if1 .left; formed = c .tree .ensures }
-
-  pub trees-returns : trees-lts.Need-returns (trees-claims t) (trees-at t) trees.Post
-  trees-returns c = no-tree (c .before .before .args .left) (c .if1 .taken) (c .before .before .pre .1)
-
-  pub trees-tree-requires : trees-lts.Need-tree-requires (trees-claims t) (trees-at t) trees.Post
-  trees-tree-requires c κs = (omega arith, c .before .before .pre .1 .start)
-
-  pub trees-enum-known-number : trees-lts.Need-enum-known-number (trees-claims t) (trees-at t) trees.Post
+  pub trees-enum-known-number : trees-lts.Need-enum-known-number (trees-claims t) (trees-at t) trees.Post trees-Inv-loop trees-μ-loop
   trees-enum-known-number c = search needs
 
-  pub trees-returns-2 : trees-lts.Need-returns-2 (trees-claims t) (trees-at t) trees.Post
-  trees-returns-2 c = first-refused (begun (c .before .before .before)) (c .before .number .given .1)
+  pub trees-returns : trees-lts.Need-returns (trees-claims t) (trees-at t) trees.Post trees-Inv-loop trees-μ-loop
+  trees-returns c = due-refused (c .before .before .before .before .before .loop .inv) (c .before .before .before .before .loop-test .taken) (c .before .before .before .tree .ensures) (c .before .number .given .1)
 
-  pub trees-enum-known-a : trees-lts.Need-enum-known-a (trees-claims t) (trees-at t) trees.Post
+  pub trees-enum-known-a : trees-lts.Need-enum-known-a (trees-claims t) (trees-at t) trees.Post trees-Inv-loop trees-μ-loop
   trees-enum-known-a c = search needs
 
-  pub trees-sub-trees : trees-lts.Need-sub-trees (trees-claims t) (trees-at t) trees.Post
-  trees-sub-trees c = search needs
+  pub trees-sub-due : trees-lts.Need-sub-due (trees-claims t) (trees-at t) trees.Post trees-Inv-loop trees-μ-loop
+  trees-sub-due c = search needs
 
-  pub trees-trees-requires : trees-lts.Need-trees-requires (trees-claims t) (trees-at t) trees.Post
-  trees-trees-requires c κs =
-      let inside = first (begun (c .before .before .before)) (c .before .a .given .1) .inside in
-      (omega arith, record { few = omega arith; start = inside .0; low = inside .1 })
+  pub trees-loop-less : trees-lts.Need-loop-less (trees-claims t) (trees-at t) trees.Post trees-Inv-loop trees-μ-loop
+  trees-loop-less c = omega (arith, c .before .before .before .before .loop-test .taken)
 
-  pub trees-returns-3 : trees-lts.Need-returns-3 (trees-claims t) (trees-at t) trees.Post
-  trees-returns-3 c = first-good (begun (c .before .before .before .before)) (c .before .before .a .given .1) (c .trees .ensures)
+  pub trees-loop-again : trees-lts.Need-loop-again (trees-claims t) (trees-at t) trees.Post trees-Inv-loop trees-μ-loop
+  trees-loop-again c = due-good (c .before .before .before .before .before .loop .inv) (c .before .before .before .before .loop-test .taken) (c .before .before .before .tree .ensures) (c .before .a .given .1)
+
+  pub trees-returns-2 : trees-lts.Need-returns-2 (trees-claims t) (trees-at t) trees.Post trees-Inv-loop trees-μ-loop
+  trees-returns-2 c = none-due (c .before .loop .inv) (c .loop-test .left)

@@ -1,4 +1,4 @@
--- The measures and claims of the cycle: 4 for each level that is left, and 1 for each term that is still to be read on it, at most three.
+-- The measures and claims of the cycle: 2 for each level that is left, and 1 for the terms on it.
 use Prim.Native.Nat.{ℕ, _+_, _*_, _<_}
 use borrow.Fn.Kinds.{In}
 use borrow.Fn.PlainCycle.{Measures, is, falls, and}
@@ -17,10 +17,10 @@ use Rattle.expr.proofs.replace.larger.Reads as larger-reads
 use Rattle.expr.proofs.replace.unless.Reads as unless-reads
 
 abbrev pub μ-walk : Measures 3 walk-kinds.ps ℕ
-μ-walk κs a = 4 * a .1 .0
+μ-walk κs a = 2 * a .1 .0
 
 abbrev pub μ-walk-all : Measures 3 walk-all-kinds.ps ℕ
-μ-walk-all κs a = 4 * a .1 .1 .1 .0 + a .1 .1 .0
+μ-walk-all κs a = 2 * a .1 .1 .1 .0 + 1
 
 abbrev pub walk-at : ℕ → In 3 walk-kinds.ps
 walk-at t = and 3 walk-kinds.ps (is 3 walk-kinds.ps μ-walk t) walk.Pre
@@ -38,4 +38,4 @@ abbrev pub walk-claims : ℕ → walk-lts.Claims
 walk-claims t = (read-record-reads.Asked, read-record-reads.Learnt, is-named-reads.Asked, is-named-reads.Learnt, both-reads.Asked, both-reads.Learnt, copy-reads.Asked, copy-reads.Learnt, unless-reads.Asked, unless-reads.Learnt, arity-reads.Asked, arity-reads.Learnt, walk-all-below t, walk-all.Post)
 
 abbrev pub walk-all-claims : ℕ → walk-all-lts.Claims
-walk-all-claims t = (walk-below t, walk.Post, larger-reads.Asked, larger-reads.Learnt, walk-all-below t, walk-all.Post)
+walk-all-claims t = (walk-below t, walk.Post, larger-reads.Asked, larger-reads.Learnt)
