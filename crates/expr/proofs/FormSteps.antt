@@ -92,7 +92,7 @@ module _ {d at a : ℕ} {s : List ℕ} {x : HeadRead} (k : Looked d at a s x) wh
 
 -- ## One tree of several
 
-pub no-tree : (d : ℕ) {n at a : ℕ} {s : List ℕ} → n ≡ 0 → TreesAsked n a at s → TreeFormed (treesFrom d n at (drop a s)) s (Good (record { used = a; next = at }))
+no-tree : (d : ℕ) {n at a : ℕ} {s : List ℕ} → n ≡ 0 → TreesAsked n a at s → TreeFormed (treesFrom d n at (drop a s)) s (Good (record { used = a; next = at }))
 no-tree d {n = zero} e k = record { answer = refl; inside = (k .start, k .low) }
 no-tree d {n = suc n} e k = absurd (omega arith)
 

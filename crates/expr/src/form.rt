@@ -54,10 +54,6 @@ fn tree(s: &[u8], at: usize, left: usize, place: usize) -> Formed
     let behind = at + head.size;
     let next = place + 1;
     let count = arity(head.kind);
-    // trees would answer the same, at the cost of a call.
-    if count == 0 {
-        return Formed::Good(Taken { used: behind, next });
-    }
     trees(s, behind, count, left - 1, next)
 }
 

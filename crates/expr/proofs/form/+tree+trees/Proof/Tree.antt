@@ -9,7 +9,7 @@ use Rattle.expr.specs.Results.{treeFrom, treesFrom, TreeFormed, TreesAsk
 use Rattle.expr.specs.declared.records.Head.{Head}
 use Rattle.expr.specs.declared.form.Formed.{Formed}
 use Rattle.expr.proofs.Arities.{arity-small}
-use Rattle.expr.proofs.FormSteps.{tree-over, tree-deep, Looked, record-refused, record-inside, record-good, no-tree}
+use Rattle.expr.proofs.FormSteps.{tree-over, tree-deep, Looked, record-refused, record-inside, record-good}
 use Rattle.expr.proofs.form.tree.Reads as tree
 use Rattle.expr.proofs.form.+tree+trees.Lts-tree as tree-lts
 use Rattle.expr.proofs.form.+tree+trees.Proof.Common.{tree-claims, tree-at}
@@ -102,14 +102,11 @@ module _ (t : ℕ) where
       → TreeFormed (treeFrom (entry c .args .left) (entry c .args .place) (bytes (entry c))) (entry c .args .s .now) y
   good c f = record-good (looked (read c)) (c .before .before .before .head .given .1) (c .arity .ensures) f
 
-  pub tree-returns-4 : tree-lts.Need-returns-4 (tree-claims t) (tree-at t) tree.Post
-  tree-returns-4 c = good (c .before) (no-tree (entry (c .before) .args .left - 1) (c .if3 .taken) (asked (c .before)))
-
   pub tree-sub-trees : tree-lts.Need-sub-trees (tree-claims t) (tree-at t) tree.Post
   tree-sub-trees c = search needs
 
   pub tree-trees-requires : tree-lts.Need-trees-requires (tree-claims t) (tree-at t) tree.Post
-  tree-trees-requires c κs = let few = asked (c .before) .few in (omega arith, asked (c .before))
+  tree-trees-requires c κs = (omega arith, asked c)
 
-  pub tree-returns-5 : tree-lts.Need-returns-5 (tree-claims t) (tree-at t) tree.Post
-  tree-returns-5 c = good (c .before .before) (c .trees .ensures)
+  pub tree-returns-4 : tree-lts.Need-returns-4 (tree-claims t) (tree-at t) tree.Post
+  tree-returns-4 c = good (c .before) (c .trees .ensures)
