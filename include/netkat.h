@@ -52,12 +52,12 @@ uint32_t netkat_version(void);
  * its stack, for which PTHREAD_STACK_MIN is enough, the frames above the call, and those of signal handlers. Measured, not proved:
  * tests/stack.c looks for the worst terms of 256 levels on x86-64, and then runs each function on just so much. `make stack` prints these
  * lines anew: what was measured and 512 more, rounded up to 4,096. */
-#define NETKAT_STACK_CHECK 167936      /* 163952 measured */
-#define NETKAT_STACK_DESUGAR 233472    /* 229504 measured */
-#define NETKAT_STACK_SUBSTITUTE 331776 /* 327472 measured */
-#define NETKAT_STACK_FRAGMENT 126976   /* 122848 measured */
-#define NETKAT_STACK_FIELDS 126976     /* 122848 measured */
-#define NETKAT_STACK_SUBRANGE 4096     /* 48 measured */
+#define NETKAT_STACK_CHECK 167936            /* 163952 measured */
+#define NETKAT_STACK_DESUGAR 233472          /* 229504 measured */
+#define NETKAT_STACK_SUBSTITUTE 331776       /* 327472 measured */
+#define NETKAT_STACK_IS_TEST_FRAGMENT 126976 /* 122848 measured */
+#define NETKAT_STACK_NUM_FIELDS 126976       /* 122848 measured */
+#define NETKAT_STACK_COMPUTE_SUBRANGE 4096   /* 48 measured */
 
 /* The numbers of refusals. 41 to 54 are kept for functions to come. */
 enum netkat_refusal {

@@ -1,7 +1,8 @@
 #!/bin/bash
-# The C tests: the header alone as C99, C11 and C++17; each function (netkat_h.c); the pages docs/REFUSALS.md and docs/FORMAT.md (pages.c); the
-# stack that the header promises (stack.c); installing, and the example (install.sh). Builds libnetkat.a first if it is missing or older than the
-# code. Needs the Rattle kit, or an archive that NETKAT_LIB names, a C compiler and make. Ends with 1 at the first difference.
+# The C tests: the header as C99, C11 and C++17; what the archive exports and needs; each function (netkat_h.c); the pages docs/REFUSALS.md and
+# docs/FORMAT.md (pages.c); the stack that the header promises (stack.c); installing, and the example (install.sh). Builds libnetkat.a first if
+# it is missing or older than the code. Needs the Rattle kit, or an archive that NETKAT_LIB names, a C compiler and make. Ends with 1 at the
+# first difference.
 set -eu
 cd "$(dirname "$0")/.."
 make -s lib > /dev/null
@@ -15,17 +16,24 @@ for standard in c99 c11; do
 done
 if command -v "$cxx" > /dev/null; then
     $cxx -std=c++17 $warnings -fsyntax-only -x c++ include/netkat.h
+    $cxx -std=c++17 $warnings -x c++ tests/netkat_h.c -x none "$lib" -o target/netkat_h
+    target/netkat_h
 else
     echo 'no C++ compiler here: the header is not tried as C++'
 fi
 
+# What the archive exports is declared; it needs memset of the C library and nothing else; it has no variables, so no state.
+symbols=$(nm "$lib")
+for name in $(awk '$2 == "T" { print $3 }' <<< "$symbols"); do
+    grep -q "^[a-z].* $name(" include/netkat.h || { echo "$name is not declared"; exit 1; }
+done
+needs=$(awk '$1 == "U" { print $2 }' <<< "$symbols" | sort -u | tr '\n' ' ')
+[ "$needs" = 'memset ' ] || { echo "the archive needs $needs"; exit 1; }
+! grep -E ' [BbCDdSsGg] ' <<< "$symbols" || { echo 'the archive has variables'; exit 1; }
+
 # Until the library has netkat_version, netkat_h.c leaves it out.
 version=
-if nm "$lib" 2> /dev/null | grep -q ' T netkat_version$'; then version=-DNETKAT_HAS_VERSION; fi
-
-# The archive needs memset of the C library, and nothing else.
-needs=$(nm -u "$lib" | awk '$1 == "U" { print $2 }' | sort -u | tr '\n' ' ')
-[ "$needs" = 'memset ' ] || { echo "the archive needs $needs"; exit 1; }
+if grep -q ' T netkat_version$' <<< "$symbols"; then version=-DNETKAT_HAS_VERSION; fi
 
 # Compiles the test with the flags and runs it.
 run() {

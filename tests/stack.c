@@ -11,10 +11,12 @@
  *
  * A run on a promised stack is made in a thread too, whose stack ends at a page without access. Before it calls `run` it takes up (alloca)
  * all but the promised bytes, so that neither PTHREAD_STACK_MIN nor what lies above the call plays a part. Each run is a process of its
- * own, as a stack overflow ends one. That it does see a stack that is too small is tried with 4,096 bytes less than was measured. */
+ * own, as a stack overflow ends one. That it does see a stack that is too small is tried with 4,096 bytes less than was measured. One more
+ * run has a thread as a user makes it, with a stack size of the promised bytes and PTHREAD_STACK_MIN. */
 #define _GNU_SOURCE
 #include "../include/netkat.h"
 #include <alloca.h>
+#include <limits.h>
 #include <pthread.h>
 #include <stdio.h>
 #include <stdlib.h>
@@ -36,9 +38,9 @@ static const struct {
     {"netkat_check", "NETKAT_STACK_CHECK", NETKAT_STACK_CHECK},
     {"netkat_desugar", "NETKAT_STACK_DESUGAR", NETKAT_STACK_DESUGAR},
     {"netkat_substitute", "NETKAT_STACK_SUBSTITUTE", NETKAT_STACK_SUBSTITUTE},
-    {"netkat_is_test_fragment", "NETKAT_STACK_FRAGMENT", NETKAT_STACK_FRAGMENT},
-    {"netkat_num_fields", "NETKAT_STACK_FIELDS", NETKAT_STACK_FIELDS},
-    {"netkat_compute_subrange", "NETKAT_STACK_SUBRANGE", NETKAT_STACK_SUBRANGE},
+    {"netkat_is_test_fragment", "NETKAT_STACK_IS_TEST_FRAGMENT", NETKAT_STACK_IS_TEST_FRAGMENT},
+    {"netkat_num_fields", "NETKAT_STACK_NUM_FIELDS", NETKAT_STACK_NUM_FIELDS},
+    {"netkat_compute_subrange", "NETKAT_STACK_COMPUTE_SUBRANGE", NETKAT_STACK_COMPUTE_SUBRANGE},
 };
 
 static const char *kinds[] = {
@@ -187,10 +189,12 @@ static void fail(const char *what) {
 
 static char *stack;
 
-static void in_thread(void *(*body)(void *), struct call *c) {
+/* The body in a thread on `stack`, or, with a size, on one of that size that the C library makes. */
+static void in_thread(void *(*body)(void *), struct call *c, size_t size) {
     pthread_attr_t attributes;
     pthread_t thread;
-    if (pthread_attr_init(&attributes) || pthread_attr_setstack(&attributes, stack, STACK) ||
+    if (pthread_attr_init(&attributes) ||
+        (size ? pthread_attr_setstacksize(&attributes, size) : pthread_attr_setstack(&attributes, stack, STACK)) ||
         pthread_create(&thread, &attributes, body, c) || pthread_join(thread, NULL))
         fail("thread");
     pthread_attr_destroy(&attributes);
@@ -203,7 +207,7 @@ static size_t used(struct call *c) {
     uint64_t *low = (uint64_t *)stack, *top = (uint64_t *)(stack + STACK);
     if (painted) low = painted;
     for (uint64_t *p = low; p < top; p++) *p = paint;
-    in_thread(on_any, c);
+    in_thread(on_any, c, 0);
     for (low = (uint64_t *)stack; *low == paint; low++) {
     }
     painted = low;
@@ -281,15 +285,16 @@ static void replacements(void) {
                 }
 }
 
-/* Does the call end well on so much stack? */
-static int survives(enum function f, size_t promised) {
+/* Does the call end well on so much stack? With `own` in a thread as a user makes it, with PTHREAD_STACK_MIN more. */
+static int survives(enum function f, size_t promised, int own) {
     struct call c = {f, &worst[f].term, &worst[f].replacement, NULL, stack, promised};
     int status;
     fflush(stdout);
     pid_t child = fork();
     if (child < 0) fail("fork");
     if (child == 0) {
-        in_thread(on_promised, &c);
+        if (own) in_thread(on_any, &c, promised + (size_t)PTHREAD_STACK_MIN);
+        else in_thread(on_promised, &c, 0);
         _exit(0);
     }
     if (waitpid(child, &status, 0) < 0) fail("wait");
@@ -315,12 +320,13 @@ int main(int argc, char **argv) {
         if (define) {
             char line[80];
             snprintf(line, sizeof line, "#define %s %zu", functions[f].define, rounded(bytes));
-            printf("%-38s /* %zu measured */\n", line, bytes);
+            printf("%-44s /* %zu measured */\n", line, bytes);
             continue;
         }
         printf("%-24s %7zu measured, %7zu promised: %s\n", functions[f].name, bytes, promised, worst[f].term.shape);
-        if (promised < bytes || !survives(f, promised)) failed = printf("    %s is too small\n", functions[f].define) > 0;
-        if (bytes > 8192 && survives(f, bytes - 4096)) failed = printf("    a stack that is too small was not seen\n") > 0;
+        if (promised < bytes || !survives(f, promised, 0)) failed = printf("    %s is too small\n", functions[f].define) > 0;
+        if (!survives(f, promised, 1)) failed = printf("    %s + PTHREAD_STACK_MIN is too small\n", functions[f].define) > 0;
+        if (bytes > 8192 && survives(f, bytes - 4096, 0)) failed = printf("    a stack that is too small was not seen\n") > 0;
     }
     if (!define && !failed) puts("stack: the promised bytes are enough");
     return failed;
