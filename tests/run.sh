@@ -11,17 +11,6 @@ cc=${CC:-cc} cxx=${CXX:-c++}
 warnings='-Wall -Wextra -pedantic -Werror'
 mkdir -p target
 
-for standard in c99 c11; do
-    $cc -std=$standard $warnings -fsyntax-only -x c include/netkat.h
-done
-if command -v "$cxx" > /dev/null; then
-    $cxx -std=c++17 $warnings -fsyntax-only -x c++ include/netkat.h
-    $cxx -std=c++17 $warnings -x c++ tests/netkat_h.c -x none "$lib" -o target/netkat_h
-    target/netkat_h
-else
-    echo 'no C++ compiler here: the header is not tried as C++'
-fi
-
 # What the archive exports is declared; it needs memset of the C library and nothing else; it has no variables, so no state.
 symbols=$(nm "$lib")
 for name in $(awk '$2 == "T" { print $3 }' <<< "$symbols"); do
@@ -34,6 +23,17 @@ needs=$(awk '$1 == "U" { print $2 }' <<< "$symbols" | sort -u | tr '\n' ' ')
 # Until the library has netkat_version, netkat_h.c leaves it out.
 version=
 if grep -q ' T netkat_version$' <<< "$symbols"; then version=-DNETKAT_HAS_VERSION; fi
+
+for standard in c99 c11; do
+    $cc -std=$standard $warnings -fsyntax-only -x c include/netkat.h
+done
+if command -v "$cxx" > /dev/null; then
+    $cxx -std=c++17 $warnings -fsyntax-only -x c++ include/netkat.h
+    $cxx -std=c++17 $warnings $version -x c++ tests/netkat_h.c -x none "$lib" -o target/netkat_h
+    target/netkat_h
+else
+    echo 'no C++ compiler here: the header is not tried as C++'
+fi
 
 # Compiles the test with the flags and runs it.
 run() {

@@ -324,6 +324,7 @@ int main(int argc, char **argv) {
             continue;
         }
         printf("%-24s %7zu measured, %7zu promised: %s\n", functions[f].name, bytes, promised, worst[f].term.shape);
+        if (promised > rounded(bytes) + 4096) printf("    %s is more than is needed: make stack\n", functions[f].define);
         if (promised < bytes || !survives(f, promised, 0)) failed = printf("    %s is too small\n", functions[f].define) > 0;
         if (!survives(f, promised, 1)) failed = printf("    %s + PTHREAD_STACK_MIN is too small\n", functions[f].define) > 0;
         if (bytes > 8192 && survives(f, bytes - 4096, 0)) failed = printf("    a stack that is too small was not seen\n") > 0;
