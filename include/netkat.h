@@ -22,7 +22,7 @@
 extern "C" {
 #endif
 
-/* The version of this header. It stands here alone: the pkg-config file takes it from here. */
+/* The version of this header. The pkg-config file takes it from here, and a test compares netkat_version with it. */
 #define NETKAT_VERSION_MAJOR 0
 #define NETKAT_VERSION_MINOR 1
 #define NETKAT_VERSION_PATCH 0
@@ -31,7 +31,7 @@ extern "C" {
 /* The version of the library that is linked, as NETKAT_VERSION puts it. */
 uint32_t netkat_version(void);
 
-/* Limits of a term: beyond them it is refused by 6, 7 and 5. */
+/* Limits of a term: beyond the first three it is refused by 6, 7 and 5; a greater prefix cannot be written. */
 #define NETKAT_MAX_RECORDS 4096
 #define NETKAT_MAX_LEVELS 256
 #define NETKAT_MAX_LITERAL_BITS 128
@@ -49,9 +49,9 @@ uint32_t netkat_version(void);
 #define NETKAT_CORE_MAX(allowance) ((size_t)7 * (allowance))
 
 /* Stack: bytes below its caller's frame that are enough for a function, whatever its input. In a thread add what the C library keeps on
- * its stack, for which PTHREAD_STACK_MIN is enough, the frames above the call, and those of signal handlers. Measured, not proved:
- * tests/stack.c looks for the worst terms of 256 levels on x86-64, and then runs each function on just so much. `make stack` prints these
- * lines anew: what was measured and 512 more, rounded up to 4,096. */
+ * its stack, for which PTHREAD_STACK_MIN was enough (glibc), thread-local variables, the frames above the call and those of signal
+ * handlers. Measured, not proved: tests/stack.c looks for the worst terms of 256 levels on x86-64, and then runs each function on just so
+ * much. `make stack` prints these lines anew: what was measured and 512 more, rounded up to 4,096. */
 #define NETKAT_STACK_CHECK 167936            /* 163952 measured */
 #define NETKAT_STACK_DESUGAR 233472          /* 229504 measured */
 #define NETKAT_STACK_SUBSTITUTE 331776       /* 327472 measured */
