@@ -1,14 +1,15 @@
 /* From a written NetKAT policy to its one-bit core: what libnetkat.a exports.
  *
- * Terms and cores are bytes; the requirement says their form under "Term bytes". A slice is a pointer to its first element and its length in
- * elements. Every function answers a struct by value. Of what its caller owns it changes nothing but `work` and `out`; it allocates
- * nothing and keeps no pointer and no state. So it may be called from several threads at once, as long as no call is lent a `work` or
- * `out` that another call has, and nobody writes the bytes that a call reads.
+ * Terms and cores are bytes: docs/FORMAT.md says their form, docs/REFUSALS.md what is refused, docs/TERMS.md what the words mean. A slice
+ * is a pointer to its first element and its length in elements. Every function answers a struct by value. Of what its caller owns it
+ * changes nothing but `work` and `out`; it allocates nothing and keeps no pointer and no state. So it may be called from several threads
+ * at once, as long as no call is lent a `work` or `out` that another call has, and nobody writes the bytes that a call reads.
  *
- * What the caller owes: no pointer is null, even of length 0; the elements are there, as many as the length says, and aligned; `work`
- * and `out` overlap neither each other nor another slice of the same call. `term` and `replacement` may overlap.
+ * What the caller owes: the elements are there, as many as the length says, and aligned; `work` and `out` overlap neither each other nor
+ * another slice of the same call. `term` and `replacement` may overlap. A pointer may be NULL if its length is 0 (tested).
  *
- * A term is walked with recursion, at most 256 levels deep: a stack of 512 KiB is enough (tested).
+ * A term is walked with recursion, at most 256 levels deep: "Stack" below says how many bytes that takes. Of the C library the archive
+ * needs memset alone.
  *
  * What is said here of answers is proved of the functions for every input; this file itself is not: it declares them by hand. */
 #ifndef NETKAT_H
@@ -20,6 +21,135 @@
 #ifdef __cplusplus
 extern "C" {
 #endif
+
+/* The version of this header. The pkg-config file takes it from here, and a test compares netkat_version with it. */
+#define NETKAT_VERSION_MAJOR 0
+#define NETKAT_VERSION_MINOR 1
+#define NETKAT_VERSION_PATCH 0
+#define NETKAT_VERSION (NETKAT_VERSION_MAJOR * 65536 + NETKAT_VERSION_MINOR * 256 + NETKAT_VERSION_PATCH)
+
+/* The version of the library that is linked, as NETKAT_VERSION puts it. */
+uint32_t netkat_version(void);
+
+/* Limits of a term: beyond the first three it is refused by 6, 7 and 5; a greater prefix cannot be written. */
+#define NETKAT_MAX_RECORDS 4096
+#define NETKAT_MAX_LEVELS 256
+#define NETKAT_MAX_LITERAL_BITS 128
+#define NETKAT_MAX_PREFIX 255
+
+/* The longest record, a match on a direct range with two literals of 128 bits, and the longest term: 1,365 Ifs over 2,731 such matches.
+ * A buffer of NETKAT_TERM_MAX bytes holds every term, so also every result of netkat_substitute. */
+#define NETKAT_RECORD_MAX 45
+#define NETKAT_TERM_MAX 125625
+
+/* Desugar: the greatest allowance; the numbers of work memory that an allowance needs, so that 10 is not met; bytes that no core under an
+ * allowance exceeds, so that 26 is not met. */
+#define NETKAT_MAX_ALLOWANCE 65535
+#define NETKAT_WORK_LEN(allowance) ((size_t)8 * (allowance) + 8192)
+#define NETKAT_CORE_MAX(allowance) ((size_t)7 * (allowance))
+
+/* Stack: bytes below its caller's frame that are enough for a function, whatever its input. In a thread add what the C library keeps on
+ * its stack, for which PTHREAD_STACK_MIN was enough (glibc), thread-local variables, the frames above the call and those of signal
+ * handlers. Measured, not proved: tests/stack.c looks for the worst terms of 256 levels on x86-64, and then runs each function on just so
+ * much. `make stack` prints these lines anew: what was measured and 512 more, rounded up to 4,096. */
+#define NETKAT_STACK_CHECK 167936            /* 163952 measured */
+#define NETKAT_STACK_DESUGAR 233472          /* 229504 measured */
+#define NETKAT_STACK_SUBSTITUTE 331776       /* 327472 measured */
+#define NETKAT_STACK_IS_TEST_FRAGMENT 126976 /* 122848 measured */
+#define NETKAT_STACK_NUM_FIELDS 126976       /* 122848 measured */
+#define NETKAT_STACK_COMPUTE_SUBRANGE 4096   /* 48 measured */
+
+/* The numbers of refusals. 41 to 54 are kept for functions to come. */
+enum netkat_refusal {
+    NETKAT_OK = 0,
+    /* the term's form */
+    NETKAT_REFUSAL_ENDS_EARLY = 1,       /* the bytes end before the term is complete */
+    NETKAT_REFUSAL_UNKNOWN_KIND = 2,     /* a kind above 26 */
+    NETKAT_REFUSAL_FOREIGN_FIELD = 3,    /* a map bit of a field that the kind, or the pattern, does not have */
+    NETKAT_REFUSAL_ZERO_WRITTEN = 4,     /* a field that is zero or empty is written, or a spare bit of a literal is 1 */
+    NETKAT_REFUSAL_OUT_OF_RANGE = 5,     /* a pattern above 3, the value of an Assign or Test above 1, a literal of more than 128 bits */
+    NETKAT_REFUSAL_TOO_MANY_RECORDS = 6, /* more than 4,096 records */
+    NETKAT_REFUSAL_TOO_DEEP = 7,         /* more than 256 levels */
+    NETKAT_REFUSAL_LEFT_OVER = 8,        /* bytes behind the end of the term */
+    /* what the caller lends */
+    NETKAT_REFUSAL_ALLOWANCE = 9,    /* the allowance is not 1 to 65,535 */
+    NETKAT_REFUSAL_WORK_MEMORY = 10, /* work is shorter than NETKAT_WORK_LEN(allowance) */
+    /* the rules */
+    NETKAT_REFUSAL_UNKNOWN_ALIAS = 11,         /* no LetBitRange around it has this name */
+    NETKAT_REFUSAL_UNBOUND_VARIABLE = 12,      /* no Let around it has this name */
+    NETKAT_REFUSAL_ALIAS_AS_VARIABLE = 13,     /* a variable of a name that only an alias has */
+    NETKAT_REFUSAL_RANGE_END_BELOW_START = 14, /* the range in use ends below its start */
+    NETKAT_REFUSAL_LITERAL_TOO_LONG = 15,      /* a literal longer than its alias, or an Exact pattern longer than its range */
+    NETKAT_REFUSAL_LITERAL_WIDTH = 16,         /* a literal on a direct range that has not just its width */
+    NETKAT_REFUSAL_CIDR_PREFIX = 17,           /* a prefix above the width */
+    NETKAT_REFUSAL_CIDR_ADDRESS = 18,          /* a Cidr address whose length is not the width */
+    NETKAT_REFUSAL_WILDCARD_WIDTH = 19,        /* a Wildcard address or mask whose length is not the width */
+    NETKAT_REFUSAL_IP_RANGE_WIDTH = 20,        /* an IpRange on more than 128 fields, or with a bound longer than the range */
+    NETKAT_REFUSAL_IP_RANGE_ORDER = 21,        /* an IpRange that starts above its end */
+    NETKAT_REFUSAL_NEGATED_NON_TEST = 22,      /* what is negated is no test */
+    NETKAT_REFUSAL_CONDITION_NOT_TEST = 23,    /* the condition of an If is no test */
+    /* limits of an answer */
+    NETKAT_REFUSAL_ALLOWANCE_SPENT = 24,  /* a step makes more core nodes than are left of the allowance */
+    NETKAT_REFUSAL_FIELD_COUNT = 25,      /* an Assign or Test of field 4,294,967,295 */
+    NETKAT_REFUSAL_BUFFER_TOO_SHORT = 26, /* out is shorter than the answer */
+    NETKAT_REFUSAL_RESULT_TOO_LARGE = 27, /* the term with its replacements has more than 4,096 records or 256 levels */
+    NETKAT_REFUSAL_SUBRANGE_OUTSIDE = 28, /* the subrange runs backwards, or beyond its alias */
+    /* the form of a replacement: 30 more than for a term */
+    NETKAT_REFUSAL_REPLACEMENT_ENDS_EARLY = 31,
+    NETKAT_REFUSAL_REPLACEMENT_UNKNOWN_KIND = 32,
+    NETKAT_REFUSAL_REPLACEMENT_FOREIGN_FIELD = 33,
+    NETKAT_REFUSAL_REPLACEMENT_ZERO_WRITTEN = 34,
+    NETKAT_REFUSAL_REPLACEMENT_OUT_OF_RANGE = 35,
+    NETKAT_REFUSAL_REPLACEMENT_TOO_MANY_RECORDS = 36,
+    NETKAT_REFUSAL_REPLACEMENT_TOO_DEEP = 37,
+    NETKAT_REFUSAL_REPLACEMENT_LEFT_OVER = 38
+};
+
+/* The kinds of records; docs/FORMAT.md says what each has and means. 0 to 15 are those of a core. */
+enum netkat_kind {
+    NETKAT_KIND_ZERO = 0,
+    NETKAT_KIND_ONE = 1,
+    NETKAT_KIND_TOP = 2,
+    NETKAT_KIND_DUP = 3,
+    NETKAT_KIND_END = 4,
+    NETKAT_KIND_ASSIGN = 5,
+    NETKAT_KIND_TEST = 6,
+    NETKAT_KIND_UNION = 7,
+    NETKAT_KIND_INTERSECT = 8,
+    NETKAT_KIND_XOR = 9,
+    NETKAT_KIND_DIFFERENCE = 10,
+    NETKAT_KIND_SEQUENCE = 11,
+    NETKAT_KIND_LTL_UNTIL = 12,
+    NETKAT_KIND_COMPLEMENT = 13,
+    NETKAT_KIND_STAR = 14,
+    NETKAT_KIND_LTL_NEXT = 15,
+    NETKAT_KIND_TEST_NEGATION = 16,
+    NETKAT_KIND_IF_THEN_ELSE = 17,
+    NETKAT_KIND_LET = 18,
+    NETKAT_KIND_LET_BIT_RANGE = 19,
+    NETKAT_KIND_VAR = 20,
+    NETKAT_KIND_VAR_ASSIGN = 21,
+    NETKAT_KIND_VAR_TEST = 22,
+    NETKAT_KIND_BIT_RANGE_ASSIGN = 23,
+    NETKAT_KIND_BIT_RANGE_TEST = 24,
+    NETKAT_KIND_BIT_RANGE_MATCH = 25,
+    NETKAT_KIND_VAR_MATCH = 26
+};
+
+/* The patterns of BitRangeMatch and VarMatch. */
+enum netkat_pattern { NETKAT_PATTERN_EXACT = 0, NETKAT_PATTERN_CIDR = 1, NETKAT_PATTERN_WILDCARD = 2, NETKAT_PATTERN_IP_RANGE = 3 };
+
+/* The bits of a record's map byte: which fields are written, in this order. */
+enum netkat_map {
+    NETKAT_MAP_KIND = 1,
+    NETKAT_MAP_NAME = 2,
+    NETKAT_MAP_START = 4,
+    NETKAT_MAP_END = 8,
+    NETKAT_MAP_PATTERN = 16,
+    NETKAT_MAP_NUMBER = 32,
+    NETKAT_MAP_A = 64,
+    NETKAT_MAP_B = 128
+};
 
 /* Success: number 0, place 0, and the operation's values in first and second, 0 where it has none.
  * A refusal: its number and its place; first and second are 0. The place is the index of a record of the term, from 0 in written order:
@@ -44,8 +174,8 @@ netkat_answer netkat_check(const uint8_t *term, size_t term_len);
 
 /* The term's core, in the front of out. first: its length in bytes; second: the drawn total, the number of core nodes that all steps
  * together made. It is at most the allowance, and the core has at most so many nodes.
- * 9 if the allowance is not 1 to 65,535; 10 if work has fewer than 8 * allowance + 8,192 numbers; 1 to 8 by form; 11 to 23 by a rule or
- * 24 by a draw beyond the allowance, whichever comes first in walking order; 26 if out is shorter than the core's bytes.
+ * 9 if the allowance is not 1 to 65,535; 10 if work has fewer than NETKAT_WORK_LEN(allowance) numbers; 1 to 8 by form; 11 to 23 by a rule
+ * or 24 by a draw beyond the allowance, whichever comes first in walking order; 26 if out is shorter than the core's bytes.
  * On a refusal every byte of out is kept, on success every byte behind the core. Of work only the length counts: the answer does not
  * depend on its numbers, and nothing is promised of them after the call. */
 netkat_answer netkat_desugar(const uint8_t *term, size_t term_len, uint32_t allowance, uint32_t *work, size_t work_len, uint8_t *out,

@@ -1,4 +1,5 @@
-/* Calls each function of include/netkat.h with answers and with refusals. Prints what differs; exits 1 if something does. */
+/* Calls each function of include/netkat.h with answers and with refusals, with NULL of length 0 for each pointer, and at the limits that
+ * the header names. Prints what differs; exits 1 if something does. */
 #include "../include/netkat.h"
 #include <stdio.h>
 #include <string.h>
@@ -15,6 +16,94 @@ static void same(const char *what, const uint8_t *got, const uint8_t *want, size
     if (memcmp(got, want, n) == 0) return;
     printf("%s: other bytes\n", what);
     failed = 1;
+}
+
+/* NULL is lent for each pointer in turn, and for all of them at once. */
+static void nulls(void) {
+    static uint32_t work[NETKAT_WORK_LEN(1000)];
+    const uint8_t zero[] = {0}, var[] = {1, NETKAT_KIND_VAR};
+    uint8_t out[64];
+    const size_t n = NETKAT_WORK_LEN(1000);
+
+    expect("check, NULL", netkat_check(NULL, 0), NETKAT_REFUSAL_ENDS_EARLY, 0, 0, 0);
+    expect("fragment, NULL", netkat_is_test_fragment(NULL, 0), NETKAT_REFUSAL_ENDS_EARLY, 0, 0, 0);
+    expect("fields, NULL", netkat_num_fields(NULL, 0), NETKAT_REFUSAL_ENDS_EARLY, 0, 0, 0);
+
+    expect("desugar, NULL term", netkat_desugar(NULL, 0, 1000, work, n, out, sizeof out), NETKAT_REFUSAL_ENDS_EARLY, 0, 0, 0);
+    expect("desugar, NULL work", netkat_desugar(zero, 1, 1000, NULL, 0, out, sizeof out), NETKAT_REFUSAL_WORK_MEMORY, 0, 0, 0);
+    expect("desugar, NULL out", netkat_desugar(zero, 1, 1000, work, n, NULL, 0), NETKAT_REFUSAL_BUFFER_TOO_SHORT, 0, 0, 0);
+    expect("desugar, NULL out and a rule", netkat_desugar(var, 2, 1000, work, n, NULL, 0), NETKAT_REFUSAL_UNBOUND_VARIABLE, 0, 0, 0);
+    expect("desugar, NULL alone", netkat_desugar(NULL, 0, 1000, NULL, 0, NULL, 0), NETKAT_REFUSAL_WORK_MEMORY, 0, 0, 0);
+    expect("desugar, NULL and no allowance", netkat_desugar(NULL, 0, 0, NULL, 0, NULL, 0), NETKAT_REFUSAL_ALLOWANCE, 0, 0, 0);
+
+    expect("substitute, NULL term", netkat_substitute(NULL, 0, 0, zero, 1, out, sizeof out), NETKAT_REFUSAL_ENDS_EARLY, 0, 0, 0);
+    expect("substitute, NULL replacement", netkat_substitute(var, 2, 0, NULL, 0, out, 64), NETKAT_REFUSAL_REPLACEMENT_ENDS_EARLY, 0, 0, 0);
+    expect("substitute, NULL out", netkat_substitute(var, 2, 0, zero, 1, NULL, 0), NETKAT_REFUSAL_BUFFER_TOO_SHORT, 0, 0, 0);
+    expect("substitute, NULL out, no variable", netkat_substitute(zero, 1, 0, zero, 1, NULL, 0), NETKAT_REFUSAL_BUFFER_TOO_SHORT, 0, 0, 0);
+    expect("substitute, NULL alone", netkat_substitute(NULL, 0, 0, NULL, 0, NULL, 0), NETKAT_REFUSAL_ENDS_EARLY, 0, 0, 0);
+}
+
+/* `levels` levels of Ifs above matches of 45 bytes, to at; the end. */
+static uint8_t *ifs(uint8_t *at, int levels) {
+    if (levels == 0) {
+        const uint8_t head[] = {0xdd, NETKAT_KIND_BIT_RANGE_MATCH, 1, 1, 1, 1, 129, 1, 1, 1, NETKAT_PATTERN_IP_RANGE};
+        memcpy(at, head, sizeof head);
+        at += sizeof head;
+        for (int i = 0; i < 2; i++) {
+            *at = NETKAT_MAX_LITERAL_BITS;
+            memset(at + 1, 0x80, 16);
+            at += 17;
+        }
+        return at;
+    }
+    *at++ = NETKAT_MAP_KIND, *at++ = NETKAT_KIND_IF_THEN_ELSE;
+    for (int i = 0; i < 3; i++) at = ifs(at, levels - 1);
+    return at;
+}
+
+static uint8_t core_out[NETKAT_CORE_MAX(NETKAT_MAX_ALLOWANCE)];
+
+/* Desugar with just so much work memory and room. */
+static netkat_answer desugar(const uint8_t *term, size_t len, uint32_t allowance, size_t work_len, size_t out_len) {
+    static uint32_t work[NETKAT_WORK_LEN(NETKAT_MAX_ALLOWANCE)];
+    return netkat_desugar(term, len, allowance, work, work_len, core_out, out_len);
+}
+
+/* The limits: a term of NETKAT_TERM_MAX bytes and 4,096 records, 256 levels, the greatest allowance with its work memory and room. */
+static void limits(void) {
+    static uint8_t term[NETKAT_TERM_MAX + 1], result[NETKAT_TERM_MAX];
+    const uint8_t wide[] = {0x0b, NETKAT_KIND_LET_BIT_RANGE, 1, 0, 0, 0x80, 0, 0, 3, NETKAT_KIND_VAR_ASSIGN, 1, 0}; /* [0, 32768) := 0 */
+    const uint8_t test[] = {0x25, NETKAT_KIND_TEST, 1, 0, 0, 0, 1};
+    const uint32_t most = NETKAT_MAX_ALLOWANCE;
+    const size_t n = NETKAT_WORK_LEN(NETKAT_MAX_ALLOWANCE), room = NETKAT_CORE_MAX(NETKAT_MAX_ALLOWANCE);
+    uint8_t *at = term;
+
+    /* An If. Its first child: a full tree of seven levels of Ifs, 3,280 records. Its second: 1 + 2 * 364 + 1 + 2 * 40 + 4. Its third: 1 */
+    *at++ = NETKAT_MAP_KIND, *at++ = NETKAT_KIND_IF_THEN_ELSE;
+    at = ifs(at, 7);
+    *at++ = NETKAT_MAP_KIND, *at++ = NETKAT_KIND_IF_THEN_ELSE;
+    for (int i = 0; i < 2; i++) at = ifs(at, 5);
+    *at++ = NETKAT_MAP_KIND, *at++ = NETKAT_KIND_IF_THEN_ELSE;
+    for (int i = 0; i < 2; i++) at = ifs(at, 3);
+    at = ifs(at, 1);
+    at = ifs(at, 0);
+    if (at - term != NETKAT_TERM_MAX) printf("the longest term has %ld bytes\n", (long)(at - term)), failed = 1;
+    expect("longest term", netkat_num_fields(term, NETKAT_TERM_MAX), 0, 0, 0x01010181, 0);
+    expect("longest term, a byte more", netkat_num_fields(term, NETKAT_TERM_MAX + 1), NETKAT_REFUSAL_LEFT_OVER, NETKAT_MAX_RECORDS, 0, 0);
+    expect("longest result", netkat_substitute(term, NETKAT_TERM_MAX, 0, test, 7, result, sizeof result), 0, 0, NETKAT_TERM_MAX, 0);
+    same("longest result", result, term, NETKAT_TERM_MAX);
+
+    for (size_t i = 0; i < NETKAT_MAX_LEVELS; i++) term[2 * i] = NETKAT_MAP_KIND, term[2 * i + 1] = NETKAT_KIND_STAR;
+    expect("too deep", netkat_check(term, 2 * NETKAT_MAX_LEVELS), NETKAT_REFUSAL_TOO_DEEP, NETKAT_MAX_LEVELS, 0, 0);
+    term[2 * NETKAT_MAX_LEVELS - 2] = 0;
+    expect("deepest", netkat_check(term, 2 * NETKAT_MAX_LEVELS - 1), 0, 0, 0, 0);
+
+    /* 32,767 Sequences, Assigns of 0 to the fields 1 to 32,767 and to field 0 */
+    expect("greatest allowance", desugar(wide, sizeof wide, most, n, room), 0, 0, 2 * 32767 + 6 * 32767 + 2, most);
+    expect("greater allowance", desugar(wide, sizeof wide, most + 1, n, room), NETKAT_REFUSAL_ALLOWANCE, 0, 0, 0);
+    expect("allowance one less", desugar(wide, sizeof wide, most - 1, n, room), NETKAT_REFUSAL_ALLOWANCE_SPENT, 1, 0, 0);
+    expect("work one less", desugar(wide, sizeof wide, most, n - 1, room), NETKAT_REFUSAL_WORK_MEMORY, 0, 0, 0);
+    expect("longest record of a core", desugar(test, sizeof test, 1, NETKAT_WORK_LEN(1), NETKAT_CORE_MAX(1)), 0, 0, NETKAT_CORE_MAX(1), 1);
 }
 
 int main(void) {
@@ -65,6 +154,12 @@ int main(void) {
     expect("subrange", netkat_compute_subrange(4, 8, 1, 3), 0, 0, 5, 7);
     expect("subrange, backwards", netkat_compute_subrange(4, 8, 3, 1), 28, 0, 0, 0);
     expect("subrange, outside", netkat_compute_subrange(4, 8, 1, 5), 28, 0, 0, 0);
+
+    nulls();
+    limits();
+#ifdef NETKAT_HAS_VERSION
+    if (netkat_version() != NETKAT_VERSION) printf("version %u, expected %u\n", netkat_version(), (unsigned)NETKAT_VERSION), failed = 1;
+#endif
 
     if (!failed) puts("netkat.h: all answers as expected");
     return failed;
