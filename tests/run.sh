@@ -20,16 +20,12 @@ needs=$(awk '$1 == "U" { print $2 }' <<< "$symbols" | sort -u | tr '\n' ' ')
 [ "$needs" = 'memset ' ] || { echo "the archive needs $needs"; exit 1; }
 ! grep -E ' [BbCDdSsGg] ' <<< "$symbols" || { echo 'the archive has variables'; exit 1; }
 
-# Until the library has netkat_version, netkat_h.c leaves it out.
-version=
-if grep -q ' T netkat_version$' <<< "$symbols"; then version=-DNETKAT_HAS_VERSION; fi
-
 for standard in c99 c11; do
     $cc -std=$standard $warnings -fsyntax-only -x c include/netkat.h
 done
 if command -v "$cxx" > /dev/null; then
     $cxx -std=c++17 $warnings -fsyntax-only -x c++ include/netkat.h
-    $cxx -std=c++17 $warnings $version -x c++ tests/netkat_h.c -x none "$lib" -o target/netkat_h
+    $cxx -std=c++17 $warnings -x c++ tests/netkat_h.c -x none "$lib" -o target/netkat_h
     target/netkat_h
 else
     echo 'no C++ compiler here: the header is not tried as C++'
@@ -39,7 +35,7 @@ fi
 run() {
     local name=$1
     shift
-    $cc -std=c11 $warnings $version "$@" "tests/$name.c" "$lib" -o "target/$name"
+    $cc -std=c11 $warnings "$@" "tests/$name.c" "$lib" -o "target/$name"
     "target/$name"
 }
 
