@@ -1,9 +1,10 @@
 /* From a written NetKAT policy to its one-bit core: what libnetkat.a exports.
  *
- * Terms and cores are bytes: docs/FORMAT.md says their form, docs/REFUSALS.md what is refused, docs/TERMS.md what the words mean. A slice
- * is a pointer to its first element and its length in elements. Every function answers a struct by value. Of what its caller owns it
- * changes nothing but `work` and `out`; it allocates nothing and keeps no pointer and no state. So it may be called from several threads
- * at once, as long as no call is lent a `work` or `out` that another call has, and nobody writes the bytes that a call reads.
+ * Terms and cores are bytes: FORMAT.md says their form, REFUSALS.md what is refused, TERMS.md what the words mean; they stand in docs/, and
+ * are installed below share/doc/netkat. A slice is a pointer to its first element and its length in elements. Every operation answers a
+ * struct by value. Of what its caller owns it changes nothing but `work` and `out`; it allocates nothing and keeps no pointer and no state.
+ * So it may be called from several threads at once, as long as no call is lent a `work` or `out` that another call has, and nobody writes
+ * the bytes that a call reads.
  *
  * What the caller owes: the elements are there, as many as the length says, and aligned; `work` and `out` overlap neither each other nor
  * another slice of the same call. `term` and `replacement` may overlap. A pointer may be NULL if its length is 0 (tested).
@@ -52,11 +53,11 @@ uint32_t netkat_version(void);
  * its stack, for which PTHREAD_STACK_MIN was enough (glibc), thread-local variables, the frames above the call and those of signal
  * handlers. Measured, not proved: tests/stack.c looks for the worst terms of 256 levels on x86-64, and then runs each function on just so
  * much. `make stack` prints these lines anew: what was measured and 512 more, rounded up to 4,096. */
-#define NETKAT_STACK_CHECK 167936            /* 163952 measured */
-#define NETKAT_STACK_DESUGAR 233472          /* 229504 measured */
-#define NETKAT_STACK_SUBSTITUTE 331776       /* 327472 measured */
-#define NETKAT_STACK_IS_TEST_FRAGMENT 126976 /* 122848 measured */
-#define NETKAT_STACK_NUM_FIELDS 126976       /* 122848 measured */
+#define NETKAT_STACK_CHECK 167936            /* 163904 measured */
+#define NETKAT_STACK_DESUGAR 221184          /* 217184 measured */
+#define NETKAT_STACK_SUBSTITUTE 102400       /* 98720 measured */
+#define NETKAT_STACK_IS_TEST_FRAGMENT 57344  /* 53472 measured */
+#define NETKAT_STACK_NUM_FIELDS 57344        /* 53472 measured */
 #define NETKAT_STACK_COMPUTE_SUBRANGE 4096   /* 48 measured */
 
 /* The numbers of refusals. 41 to 54 are kept for functions to come. */

@@ -29,8 +29,11 @@ fi
 
 # DESTDIR: the files lie below it, and do not speak of it.
 make -s install DESTDIR="$tmp/stage" PREFIX=/opt/netkat > /dev/null
-[ "$(cd "$tmp/stage" && find . -type f | sort | tr '\n' ' ')" = \
-    './opt/netkat/include/netkat.h ./opt/netkat/lib/libnetkat.a ./opt/netkat/lib/pkgconfig/netkat.pc ' ] || { echo 'DESTDIR: other files'; exit 1; }
+files='include/netkat.h lib/libnetkat.a lib/pkgconfig/netkat.pc'
+for page in FORMAT.md LICENSE NOTICE REFUSALS.md TERMS.md; do
+    files="$files share/doc/netkat/$page"
+done
+[ "$(cd "$tmp/stage/opt/netkat" && find * -type f | sort | tr '\n' ' ')" = "$files " ] || { echo 'DESTDIR: other files'; exit 1; }
 grep -qx 'prefix=/opt/netkat' "$tmp/stage/opt/netkat/lib/pkgconfig/netkat.pc" || { echo 'DESTDIR: another prefix'; exit 1; }
 make -s uninstall DESTDIR="$tmp/stage" PREFIX=/opt/netkat > /dev/null
 [ -z "$(find "$tmp/stage" -type f)" ] || { echo 'uninstall left files'; exit 1; }
