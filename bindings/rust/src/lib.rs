@@ -32,11 +32,15 @@
 
 #![deny(unsafe_code, missing_docs)]
 
+mod addresses;
 pub mod bytes;
 mod cores;
 mod desugarer;
+mod display;
 mod expr;
 mod ffi;
+pub mod limits;
+mod literal;
 mod names;
 mod record;
 mod refusal;
@@ -49,8 +53,10 @@ struct Readme;
 
 use std::ops::Range;
 
+pub use addresses::{bits_of_ipv4, bits_of_ipv6, ParsePatternError};
 pub use cores::Core;
 pub use desugarer::{desugar, Desugared, DesugaredBytes, Desugarer};
+pub use display::ExprDisplay;
 pub use expr::{Exp, Expr, Pattern};
 pub use names::Names;
 pub use refusal::{FormFault, Refusal, RefusalKind};
