@@ -1,19 +1,49 @@
+use std::cell::RefCell;
 use std::fmt;
 
-use crate::{ffi, Core, Expr, Refusal};
+use crate::ffi::Memory;
+use crate::{tree, Core, Expr, Refusal};
+
+thread_local! {
+    /// What [`desugar`] and `bytes::desugar` work with.
+    static KEPT: RefCell<Option<Desugarer>> = const { RefCell::new(None) };
+}
+
+/// Calls with the thread's desugarer of the greatest allowance, or with a new one while the thread ends.
+pub(crate) fn with_kept<T>(mut call: impl FnMut(&mut Desugarer) -> T) -> T {
+    let kept = KEPT.try_with(|kept| Some(call(kept.try_borrow_mut().ok()?.get_or_insert_with(Desugarer::new))));
+    kept.ok().flatten().unwrap_or_else(|| call(&mut Desugarer::new()))
+}
+
+/// Frees the memory that [`desugar()`] and [`bytes::desugar`](crate::bytes::desugar) keep for this thread. The next call allocates it
+/// anew; a thread that ends frees it by itself.
+///
+/// ```
+/// use netkat::{desugar, release_memory, Expr};
+///
+/// assert!(desugar(&Expr::One).is_ok());
+/// release_memory();
+/// assert!(desugar(&Expr::One).is_ok());
+/// ```
+pub fn release_memory() {
+    // Where the thread's memory is gone, there is nothing to free.
+    let _ = KEPT.try_with(|kept| kept.take());
+}
 
 /// The core of a term, at the greatest allowance.
 ///
-/// Takes the place of the original's `desugar`. For many terms, or another allowance, see [`Desugarer`].
+/// Takes the place of the original's `desugar`. The memory it works with is kept for the thread's next call, 2.6 MB of which only
+/// what was once needed is resident; see [`release_memory`]. For another allowance see [`Desugarer`].
 ///
 /// ```
-/// use netkat::{desugar, Core, Expr};
+/// use netkat::{desugar, Expr, View};
 ///
 /// let policy = Expr::test_negation(Expr::test(0, true));
-/// assert_eq!(desugar(&policy), Ok(Core::Test(0, false)));
+/// let core = desugar(&policy).unwrap();
+/// assert_eq!(core.root().view(), View::Test(0, false));
 /// ```
 pub fn desugar(term: &Expr) -> Result<Core, Refusal> {
-    Desugarer::new().desugar(term).map(|desugared| desugared.core)
+    with_kept(|desugarer| desugarer.desugar(term).map(|desugared| desugared.core))
 }
 
 /// Desugars terms one after another in the same memory.
@@ -37,8 +67,9 @@ pub fn desugar(term: &Expr) -> Result<Core, Refusal> {
 /// ```
 pub struct Desugarer {
     allowance: u32,
-    work: Vec<u32>,
-    out: Vec<u8>,
+    memory: Memory,
+    /// The bytes of the term.
+    term: Vec<u8>,
 }
 
 /// A core, and what it took to make it.
@@ -71,12 +102,7 @@ impl Desugarer {
     /// A desugarer with this allowance. If it is not 1 to 65,535, each call is refused by 9.
     pub fn with_allowance(allowance: u32) -> Self {
         let nodes = allowance.min(Self::MAX_ALLOWANCE) as usize;
-        Desugarer {
-            allowance,
-            work: vec![0; 8 * nodes + 8_192],
-            // A core has no more nodes than were drawn. The longest record, a test or an assignment, has 7 bytes.
-            out: vec![0; 7 * nodes],
-        }
+        Desugarer { allowance, memory: Memory::for_nodes(nodes), term: Vec::new() }
     }
 
     /// The allowance.
@@ -86,9 +112,10 @@ impl Desugarer {
 
     /// The core of a term. Refused by 5 to 7 if the term is beyond the limits, by 9, by a rule (11 to 23), or by 24.
     pub fn desugar(&mut self, term: &Expr) -> Result<Desugared, Refusal> {
-        let DesugaredBytes { core, drawn } = self.desugar_bytes(&term.to_bytes()?)?;
-        let core = Core::from_bytes(core).expect("the library writes cores of good form");
-        Ok(Desugared { core, drawn })
+        self.term.clear();
+        tree::encode(term, &mut self.term)?;
+        let (core, drawn) = self.memory.desugar(&self.term, self.allowance)?;
+        Ok(Desugared { core: Core::from_library(core, drawn), drawn })
     }
 
     /// The bytes of the core of a term in bytes. Refused by 9, by form (1 to 8), by a rule (11 to 23), or by 24.
@@ -102,8 +129,8 @@ impl Desugarer {
     /// assert_eq!(desugared.drawn, 3);
     /// ```
     pub fn desugar_bytes(&mut self, term: &[u8]) -> Result<DesugaredBytes<'_>, Refusal> {
-        let (length, drawn) = ffi::desugar(term, self.allowance, &mut self.work, &mut self.out)?;
-        Ok(DesugaredBytes { core: &self.out[..length as usize], drawn })
+        let (core, drawn) = self.memory.desugar(term, self.allowance)?;
+        Ok(DesugaredBytes { core, drawn })
     }
 }
 

@@ -5,7 +5,7 @@
 use std::fmt;
 
 use crate::literal::{shortest, Literal, ValueAndWidth};
-use crate::{Expr, Field, Names, Pattern, Value};
+use crate::{Core, Expr, Field, Names, Node, Pattern, Value, View};
 
 /// The policy in the original's written syntax, with every name as `n` and its number. With words for names: [`Expr::display`], which
 /// also says what the original's parser makes of the text.
@@ -33,6 +33,28 @@ impl fmt::Display for Expr {
 impl fmt::Display for Pattern {
     fn fmt(&self, f: &mut fmt::Formatter<'_>) -> fmt::Result {
         write!(f, "{}", PatternText(Target::Alias(0), self))
+    }
+}
+
+/// The core in the original's written syntax, which can say every core: the original's parser reads the text as [`Core::to_expr`]. A chain
+/// leans right and so has a pair of parentheses for each link.
+///
+/// ```
+/// use netkat::{desugar, Expr};
+///
+/// let core = desugar(&Expr::bit_range_test(0, 3, vec![true, false, true])).unwrap();
+/// assert_eq!(core.to_string(), "x0 == 1 & (x1 == 0 & x2 == 1)");
+/// ```
+impl fmt::Display for Core {
+    fn fmt(&self, f: &mut fmt::Formatter<'_>) -> fmt::Result {
+        write(self.root(), None, f)
+    }
+}
+
+/// The tree below the node, as [`Core`] is written.
+impl fmt::Display for Node<'_> {
+    fn fmt(&self, f: &mut fmt::Formatter<'_>) -> fmt::Result {
+        write(*self, None, f)
     }
 }
 
@@ -188,6 +210,29 @@ impl<'a> Written<'a> for &'a Expr {
             Expr::IfThenElse(condition, a, b) => Shape::If(condition, a, b),
             Expr::Let(name, definition, body) => Shape::Let(*name, definition, body),
             Expr::LetBitRange(name, start, end, body) => Shape::LetBitRange(*name, *start, *end, body),
+        }
+    }
+}
+
+impl<'a> Written<'a> for Node<'a> {
+    fn shape(self) -> Shape<'a, Self> {
+        match self.view() {
+            View::Zero => Shape::Word("0"),
+            View::One => Shape::Word("1"),
+            View::Top => Shape::Word("T"),
+            View::Dup => Shape::Word("dup"),
+            View::End => Shape::Word("end"),
+            View::Assign(field, value) => Shape::Relation(Relation::Field(field, ":=", value)),
+            View::Test(field, value) => Shape::Relation(Relation::Field(field, "==", value)),
+            View::Complement(a) => Shape::Prefix("~", a),
+            View::LtlNext(a) => Shape::Prefix("X ", a),
+            View::Star(a) => Shape::Star(a),
+            View::Union(a, b) => Shape::Infix(Infix::Union, a, b),
+            View::Intersect(a, b) => Shape::Infix(Infix::Intersect, a, b),
+            View::Xor(a, b) => Shape::Infix(Infix::Xor, a, b),
+            View::Difference(a, b) => Shape::Infix(Infix::Difference, a, b),
+            View::Sequence(a, b) => Shape::Infix(Infix::Sequence, a, b),
+            View::LtlUntil(a, b) => Shape::Infix(Infix::Until, a, b),
         }
     }
 }

@@ -18,7 +18,7 @@
 //! );
 //!
 //! let core = desugar(&policy).expect("the policy keeps every rule");
-//! assert_eq!(core.nodes().count(), 15);
+//! assert_eq!(core.len(), 15);
 //! ```
 //!
 //! | for | see |
@@ -26,7 +26,7 @@
 //! | building terms | [`Expr`], [`Pattern`], [`Names`], [`bits`] |
 //! | judging a term without making its core | [`Expr::check`] |
 //! | making the core of one term, or of many | [`desugar()`], [`Desugarer`] |
-//! | what the core is | [`Core`] |
+//! | what the core is | [`Core`], [`Node`], [`View`] |
 //! | why there is no answer | [`Refusal`] |
 //! | terms that are bytes already | [`bytes`] |
 
@@ -35,15 +35,19 @@
 mod addresses;
 pub mod bytes;
 mod cores;
+mod debug;
 mod desugarer;
 mod display;
 mod expr;
 mod ffi;
+mod kinds;
 pub mod limits;
 mod literal;
 mod names;
+mod node;
 mod record;
 mod refusal;
+mod slots;
 mod tree;
 
 /// The examples of the README, as tests.
@@ -54,11 +58,13 @@ struct Readme;
 use std::ops::Range;
 
 pub use addresses::{bits_of_ipv4, bits_of_ipv6, ParsePatternError};
-pub use cores::Core;
-pub use desugarer::{desugar, Desugared, DesugaredBytes, Desugarer};
+pub use cores::{Core, CoreRecord};
+pub use desugarer::{desugar, release_memory, Desugared, DesugaredBytes, Desugarer};
 pub use display::ExprDisplay;
 pub use expr::{Exp, Expr, Pattern};
+pub use kinds::Kind;
 pub use names::Names;
+pub use node::{Node, View};
 pub use refusal::{FormFault, Refusal, RefusalKind};
 
 /// The number of a one-bit field.
