@@ -34,10 +34,12 @@
 
 mod addresses;
 pub mod bytes;
+mod combine;
 mod cores;
 mod debug;
 mod desugarer;
 mod display;
+mod explain;
 mod expr;
 mod ffi;
 mod kinds;
@@ -45,6 +47,7 @@ pub mod limits;
 mod literal;
 mod names;
 mod node;
+mod outline;
 mod record;
 mod refusal;
 mod slots;
