@@ -173,7 +173,7 @@ impl At<'_> {
             return None;
         }
         let shown = self.name(name);
-        let variable = self.outline.definition(name, self.place).map_or("", |_| ", and the variable of that name is not one");
+        let variable = self.outline.definition(name, self.place).map_or("", |_| " (a variable of that name does not count)");
         let in_scope = self.list("aliases", self.outline.aliases(self.place).map(|alias| alias.0));
         Some(format!(
             "this {use_of_it} needs an alias {shown}, and no let around it gives {shown} a range of fields{variable}; {in_scope}"
@@ -220,7 +220,7 @@ impl At<'_> {
         if culprit == operand {
             Some(format!("{rule}, and `{}` is not one", shown(operand)))
         } else {
-            Some(format!("{rule}, and `{}` is not one because of `{}` (record {culprit})", shown(operand), shown(culprit)))
+            Some(format!("{rule}, and `{}` is not one because of `{}` at record {culprit}", shown(operand), shown(culprit)))
         }
     }
 

@@ -1,6 +1,7 @@
 //! Random policies written by the crate's `Display` and read back by the original's parser.
 //!
-//!     readback SEED COUNT
+//!     readback compare SEED COUNT     compares; ends with 1 on a difference
+//!     readback sample SEED COUNT      prints policies that are read back: the term's bytes in hexadecimal and the text
 //!
 //! Where the written syntax can say a policy, the parser must give the same tree, but a match for each test of an alias or a range; where
 //! it cannot, the parser must refuse the text. Which is the case, `sayable` says by the grammar, apart from how `Display` decides it.
@@ -19,7 +20,24 @@ use std::collections::{BTreeMap, HashMap};
 
 /// Words that the parser reads as names and words that it does not. `n3` and `n3_` are also what a name without a word gets.
 const WORDS: [&str; 18] = [
-    "a", "dst", "src_ip", "x", "x7", "T", "in", "mask", "two words", "", "n3", "n3_", "x4294967296", "_a", "größe", "a;b", "X1", "x_",
+    "a",
+    "dst",
+    "src_ip",
+    "x",
+    "x7",
+    "T",
+    "in",
+    "mask",
+    "two words",
+    "",
+    "n3",
+    "n3_",
+    "x4294967296",
+    "_a",
+    "größe",
+    "a;b",
+    "X1",
+    "x_",
 ];
 
 /// Whether the written syntax can say a node, its children aside, by the rules on widths of literals.
@@ -99,10 +117,17 @@ fn compare(policy: &Exp, names: &Names, numbers: &HashMap<String, u16>, tally: &
     if back != back::tests_as_matches(policy) {
         return report(&text, policy, &format!("{back:?}"));
     }
-    if policy.check().is_ok() {
-        tally.cores += 1;
+    let core = policy.desugar();
+    if policy.check() != back.check() || core != back.desugar() {
+        return report(&text, policy, "another core or refusal");
     }
-    policy.check() == back.check() && policy.desugar() == back.desugar() || report(&text, policy, "another core or refusal")
+    let Ok(core) = core else { return true };
+    tally.cores += 1;
+    let text = core.to_string();
+    match parser::parse_expressions(&text) {
+        Ok(list) if list.len() == 1 && back::convert(&list[0], numbers) == core.to_expr() => true,
+        _ => report(&text, policy, "the core is not read back"),
+    }
 }
 
 fn report(text: &str, policy: &Exp, found: &str) -> bool {
@@ -126,16 +151,39 @@ fn run(seed: u64, count: u64) -> bool {
             differences += 1;
         }
     }
-    println!("{count} policies: {} read back, {} of them with a core, {} refused as they should be", tally.read, tally.cores, tally.refused);
+    println!(
+        "{count} policies: {} read back, {} refused as they should be; {} cores read back",
+        tally.read, tally.refused, tally.cores
+    );
     println!("kinds in those read back: {:?}", tally.kinds);
     println!("{differences} differences");
     differences == 0
 }
 
+/// Prints short policies without words for their names.
+fn sample(seed: u64, count: usize) -> bool {
+    let names = Names::new();
+    let numbers = numbers(&names);
+    let mut random = Random::new(seed);
+    let short = std::iter::repeat_with(|| random.policy())
+        .filter(|policy| policy.nodes().all(sayable) && (20..110).contains(&policy.to_string().chars().count()));
+    short.take(count).all(|policy| {
+        let hex: String = policy.to_bytes().unwrap().iter().map(|byte| format!("{byte:02x}")).collect();
+        println!("{hex} {policy}");
+        compare(&policy, &names, &numbers, &mut Tally::default())
+    })
+}
+
 fn main() {
-    let number = |i, default| std::env::args().nth(i).map_or(default, |text| text.parse().expect("readback SEED COUNT"));
-    let (seed, count) = (number(1, 1), number(2, 100_000));
+    let args: Vec<String> = std::env::args().collect();
+    let numbers: Vec<u64> = args.iter().skip(2).filter_map(|text| text.parse().ok()).collect();
+    let ([_, command, ..], &[seed, count]) = (&args[..], &numbers[..]) else {
+        eprintln!("readback compare|sample SEED COUNT");
+        std::process::exit(2)
+    };
+    let samples = command == "sample";
     // The parser recurses.
-    let thread = std::thread::Builder::new().stack_size(1 << 30).spawn(move || run(seed, count)).unwrap();
+    let work = move || if samples { sample(seed, count as usize) } else { run(seed, count) };
+    let thread = std::thread::Builder::new().stack_size(1 << 30).spawn(work).unwrap();
     std::process::exit(!thread.join().unwrap_or(false) as i32);
 }

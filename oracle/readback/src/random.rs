@@ -81,7 +81,10 @@ impl Random {
             0 => Pattern::Exact(self.bits(free)),
             1 => {
                 let width = self.near(32);
-                Pattern::Cidr { address: self.bits(width), prefix_len: self.below(33) + usize::from(!self.tidy && self.one_in(9)) }
+                Pattern::Cidr {
+                    address: self.bits(width),
+                    prefix_len: self.below(33) + usize::from(!self.tidy && self.one_in(9)),
+                }
             }
             2 => {
                 let (a, b) = (self.near(32), self.near(32));
