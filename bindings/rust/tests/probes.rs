@@ -1,5 +1,8 @@
 //! The probes of the requirement ("document 01"), starred and not.
 
+use std::fs;
+use std::path::Path;
+
 use netkat::{bits, bytes, desugar, Core, Desugared, Desugarer, Exp, Expr, Kind, Pattern, Refusal};
 
 fn desugared(term: &Expr) -> Desugared {
@@ -128,10 +131,21 @@ fn unbound_variable() {
     assert_eq!(bytes::desugar(&[0x01, 0x14]), Err(Refusal { number: 12, place: 0 }));
 }
 
+/// The package has copies of two files of the project, so that its tests need nothing else. Where the project is there, they are the same.
+#[test]
+fn copies_are_the_project_s_files() {
+    let package = Path::new(env!("CARGO_MANIFEST_DIR"));
+    for (copy, file) in [("probes.txt", "tests/probes.txt"), ("prefix.term", "examples/prefix.term")] {
+        if let Ok(bytes) = fs::read(package.join("../..").join(file)) {
+            assert!(fs::read(package.join("tests").join(copy)).unwrap() == bytes, "tests/{copy} is not {file} of the project");
+        }
+    }
+}
+
 /// tests/probes.txt of the project; docs/TESTS.md says what its lines are.
 #[test]
 fn probe_lines() {
-    let lines = include_str!("../../../tests/probes.txt").lines().filter(|line| !line.starts_with('#'));
+    let lines = include_str!("probes.txt").lines().filter(|line| !line.starts_with('#'));
     let mut count = 0;
     for line in lines {
         let words: Vec<&str> = line.split_whitespace().filter(|word| *word != "=>").collect();
@@ -165,7 +179,7 @@ fn probe_lines() {
 #[test]
 fn prefix_example() {
     let mut desugarer = Desugarer::with_allowance(1_000);
-    let desugared = desugarer.desugar_bytes(include_bytes!("../../../examples/prefix.term")).unwrap();
+    let desugared = desugarer.desugar_bytes(include_bytes!("prefix.term")).unwrap();
     assert_eq!((desugared.drawn, desugared.core.len()), (15, 61));
     assert!(desugared.core.starts_with(&hex("0107010b0108250605000000")));
 }
