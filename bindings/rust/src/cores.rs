@@ -87,15 +87,22 @@ impl Core {
     /// assert_eq!(body.view(), View::Test(3, true));
     /// ```
     pub fn from_bytes(bytes: &[u8]) -> Result<Self, Refusal> {
-        // Tests and assignments of seven bytes, and an operator of two bytes for each.
-        slots::decode(bytes, bytes.len() / 4).map(Self::of_slots)
+        // Mostly, tests and assignments of seven bytes have an operator of two bytes each.
+        Self::of_bytes(bytes, bytes.len() / 4)
     }
 
     /// The core that the library wrote, whose steps drew so many nodes.
-    pub(crate) fn from_library(bytes: &[u8], drawn: u32) -> Self {
+    pub(crate) fn of_library(bytes: &[u8], drawn: u32) -> Self {
         // A core has no more nodes than were drawn. An operator of two bytes with two Zeros of one is the shortest tree.
         let nodes = (drawn as usize).min(bytes.len() * 2 / 3 + 1);
-        slots::decode(bytes, nodes).map(Self::of_slots).expect("the library writes cores of good form")
+        Self::of_bytes(bytes, nodes).expect("the library writes cores of good form")
+    }
+
+    /// The core of the bytes, which has about so many nodes.
+    fn of_bytes(bytes: &[u8], nodes: usize) -> Result<Self, Refusal> {
+        let mut slots = slots::decode(bytes, Vec::with_capacity(nodes))?;
+        slots.shrink_to_fit();
+        Ok(Core { slots })
     }
 
     /// The bytes of the core.

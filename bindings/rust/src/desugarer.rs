@@ -115,7 +115,7 @@ impl Desugarer {
         self.term.clear();
         tree::encode(term, &mut self.term)?;
         let (core, drawn) = self.memory.desugar(&self.term, self.allowance)?;
-        Ok(Desugared { core: Core::from_library(core, drawn), drawn })
+        Ok(Desugared { core: Core::of_library(core, drawn), drawn })
     }
 
     /// The bytes of the core of a term in bytes. Refused by 9, by form (1 to 8), by a rule (11 to 23), or by 24.

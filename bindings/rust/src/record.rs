@@ -91,6 +91,7 @@ impl<'a> Record<&'a [bool]> {
         Record { kind, ..Record::default() }
     }
 
+    #[inline(always)]
     pub fn with_pattern(self, pattern: &'a Pattern) -> Self {
         match pattern {
             Pattern::Exact(a) => Record { pattern: 0, a, ..self },
@@ -106,7 +107,7 @@ impl<'a> Record<&'a [bool]> {
     }
 
     /// Appends the bytes of the record. Refused by 5 if a field is too large for its place.
-    #[inline]
+    #[inline(always)]
     pub fn write(&self, out: &mut Vec<u8>) -> Result<(), u32> {
         if self.number > usize::from(u8::MAX) || self.a.len() > MAX_LITERAL || self.b.len() > MAX_LITERAL {
             return Err(5);
@@ -141,7 +142,7 @@ impl<'a> Record<&'a [bool]> {
     }
 
     /// The map byte: a bit for each field that is not zero or empty.
-    #[inline]
+    #[inline(always)]
     fn map(&self) -> u8 {
         let bit = |bit, present| if present { bit } else { 0 };
         bit(KIND, self.kind != 0)
@@ -266,19 +267,27 @@ fn nonzero<T: Default + PartialEq>(value: T) -> Result<T, u32> {
     }
 }
 
-/// Appends a literal's length byte and its bits.
+/// Appends a literal's length byte and its bits. The literal has at most 128 bits.
 fn write_literal(bits: &[bool], out: &mut Vec<u8>) {
-    out.push(bits.len() as u8);
+    let mut packed = [0; 1 + MAX_LITERAL / 8];
+    packed[0] = bits.len() as u8;
     let chunks = bits.chunks_exact(8);
     let rest = chunks.remainder();
-    out.extend(chunks.map(|chunk| pack(chunk.try_into().expect("a chunk of eight"))));
-    if !rest.is_empty() {
-        out.push(rest.iter().rev().fold(0, |byte, bit| byte << 1 | u8::from(*bit)));
+    for (byte, chunk) in packed[1..].iter_mut().zip(chunks) {
+        *byte = pack(chunk.try_into().expect("a chunk of eight"));
     }
+    if !rest.is_empty() {
+        packed[1 + bits.len() / 8] = rest.iter().rev().fold(0, |byte, bit| byte << 1 | u8::from(*bit));
+    }
+    // A copy of a fixed length takes no call.
+    let end = out.len() + 1 + bits.len().div_ceil(8);
+    out.extend_from_slice(&packed);
+    out.truncate(end);
 }
 
 /// Eight bits as a byte, the first one lowest.
-fn pack(bits: [bool; 8]) -> u8 {
+#[inline]
+fn pack(bits: &[bool; 8]) -> u8 {
     // Byte i of the word is 0 or 1, and is wanted at bit 56 + i: the factor has bit 56 - 7 * i. No two products meet in a bit.
     let word = u64::from_le_bytes(bits.map(u8::from));
     (word.wrapping_mul(0x0102_0408_1020_4080) >> 56) as u8

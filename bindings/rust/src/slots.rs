@@ -26,7 +26,7 @@ impl Slot {
 }
 
 /// Takes nodes in prefix order and finds the second children.
-pub(crate) struct Builder {
+struct Builder {
     slots: Vec<Slot>,
     /// The innermost operator whose first child is not complete. Until it is, the operator's slot holds the next such operator
     /// further out.
@@ -34,123 +34,158 @@ pub(crate) struct Builder {
     complete: bool,
 }
 
-/// Ends the list of pending operators.
+/// Ends the list of pending operators; no index.
 const NONE: u32 = u32::MAX;
 
 impl Builder {
-    pub fn with_capacity(nodes: usize) -> Self {
-        Builder { slots: Vec::with_capacity(nodes), pending: NONE, complete: false }
+    /// Builds in the memory of `slots`, which are dropped.
+    fn new(mut slots: Vec<Slot>) -> Self {
+        slots.clear();
+        Builder { slots, pending: NONE, complete: false }
     }
 
     /// Appends a node. Refused by 6 if its index does not fit in a slot.
-    #[inline]
-    pub fn push(&mut self, slot: Slot) -> Result<(), u32> {
+    fn push(&mut self, slot: Slot) -> Result<(), u32> {
+        let index = u32::try_from(self.slots.len()).ok().filter(|index| *index < NONE).ok_or(6u32)?;
+        self.slots.push(slot);
         match slot.kind.arity() {
-            0 => self.push_leaf(slot),
-            1 => {
-                self.slots.push(slot);
-                Ok(())
+            0 => match self.slots.get_mut(self.pending as usize) {
+                // A leaf ends the first child of the innermost pending operator, whose second child is next.
+                Some(operator) => {
+                    self.pending = operator.number;
+                    operator.number = index + 1;
+                }
+                None => self.complete = true,
+            },
+            1 => {}
+            _ => {
+                self.slots[index as usize].number = self.pending;
+                self.pending = index;
             }
-            _ => self.push_binary(slot.kind),
-        }
-    }
-
-    #[inline]
-    fn push_binary(&mut self, kind: Kind) -> Result<(), u32> {
-        let index = self.index()?;
-        self.slots.push(Slot { kind, value: false, number: self.pending });
-        self.pending = index;
-        Ok(())
-    }
-
-    /// A leaf ends the first child of the innermost pending operator, or the core.
-    #[inline]
-    fn push_leaf(&mut self, leaf: Slot) -> Result<(), u32> {
-        let index = self.index()?;
-        self.slots.push(leaf);
-        match self.slots.get_mut(self.pending as usize) {
-            Some(operator) => {
-                self.pending = operator.number;
-                operator.number = index + 1;
-            }
-            None => self.complete = true,
         }
         Ok(())
     }
 
-    /// The index of the next node.
-    #[inline]
-    fn index(&self) -> Result<u32, u32> {
-        u32::try_from(self.slots.len()).ok().filter(|index| *index < NONE).ok_or(6)
+    /// Reads what a core mostly consists of, operators and their tests, away from the end of the bytes and of the tree. Gives the
+    /// bytes that are not read.
+    fn read_common<'a>(&mut self, mut bytes: &'a [u8]) -> &'a [u8] {
+        let slots = &mut self.slots;
+        let mut pending = self.pending;
+        while let Some(window) = bytes.first_chunk::<16>() {
+            let (first, second) = (word_at::<0>(window), word_at::<2>(window));
+            let index = slots.len();
+            if index >= NONE as usize - 2 {
+                break;
+            }
+            if is_binary(first) && is_atom(second) {
+                // The first child is this leaf.
+                slots.extend_from_slice(&[Slot { number: index as u32 + 2, ..operator(first) }, atom(second)]);
+                bytes = &bytes[2 + atom_length(second)..];
+            } else if is_binary(first) {
+                slots.push(Slot { number: pending, ..operator(first) });
+                pending = index as u32;
+                bytes = &bytes[2..];
+            } else if is_atom(first) && (pending as usize) < index {
+                slots.push(atom(first));
+                let operator = &mut slots[pending as usize];
+                pending = operator.number;
+                operator.number = index as u32 + 1;
+                bytes = &bytes[atom_length(first)..];
+            } else {
+                break;
+            }
+        }
+        self.pending = pending;
+        bytes
+    }
+
+    /// Reads a record: quickly if its form is good, else as a record of a term, for the refusal.
+    fn read<'a>(&mut self, bytes: &'a [u8]) -> Result<&'a [u8], u32> {
+        if let Some((slot, length)) = slot_of_bytes(bytes) {
+            if let Some(rest) = bytes.get(length..) {
+                self.push(slot)?;
+                return Ok(rest);
+            }
+        }
+        let mut input = Input(bytes);
+        let record = Record::read(&mut input, kind::LAST_OF_CORE)?;
+        self.push(slot_of(&record).ok_or(2u32)?)?;
+        Ok(input.0)
     }
 }
 
-/// The slots of the bytes of a core with about so many nodes, or the refusal of their form.
-pub(crate) fn decode(bytes: &[u8], nodes: usize) -> Result<Vec<Slot>, Refusal> {
-    let mut builder = Builder::with_capacity(nodes);
-    let mut input = Input(bytes);
+/// The slots of the bytes of a core, in the memory of `slots`, or the refusal of their form.
+pub(crate) fn decode(bytes: &[u8], slots: Vec<Slot>) -> Result<Vec<Slot>, Refusal> {
+    let mut builder = Builder::new(slots);
+    let mut rest = bytes;
     while !builder.complete {
-        if let Err(number) = read(&mut input, &mut builder) {
-            return Err(refusal(number, builder.slots.len()));
-        }
+        rest = builder.read_common(rest);
+        rest = builder.read(rest).map_err(|number| refusal(number, builder.slots.len()))?;
     }
-    if !input.0.is_empty() {
+    if !rest.is_empty() {
         return Err(refusal(8, builder.slots.len()));
     }
-    builder.slots.shrink_to_fit();
     Ok(builder.slots)
 }
 
-/// Reads one record: at once if it is one of the commonest, else as records of terms are read.
-#[inline]
-fn read(input: &mut Input, builder: &mut Builder) -> Result<(), u32> {
-    if let Some(window) = input.0.first_chunk() {
-        let window = u64::from_le_bytes(*window);
-        if let Some(operator) = binary_of(window) {
-            input.0 = &input.0[2..];
-            return builder.push_binary(operator);
-        }
-        if let Some((leaf, length)) = atom_of(window) {
-            input.0 = &input.0[length..];
-            return builder.push_leaf(leaf);
-        }
+/// The slot and the length of the record of good form that the bytes begin with.
+fn slot_of_bytes(bytes: &[u8]) -> Option<(Slot, usize)> {
+    let mut window = [0; 8];
+    for (to, from) in window.iter_mut().zip(bytes) {
+        *to = *from;
     }
-    let record = Record::read(input, kind::LAST_OF_CORE)?;
-    builder.push(slot_of(&record).ok_or(2u32)?)
+    let [map, number, value, ..] = window;
+    let word = u64::from_le_bytes(window);
+    if map == 0 {
+        return Some((Slot::new(Kind::Zero), 1));
+    }
+    let kind = Kind::from_number(number)?;
+    match map {
+        1 if kind != Kind::Zero => Some((Slot::new(kind), 2)),
+        0x21 if matches!(kind, Kind::Assign | Kind::Test) && value == 1 => Some((Slot { value: true, ..Slot::new(kind) }, 3)),
+        _ => is_atom(word).then(|| (atom(word), atom_length(word))),
+    }
 }
 
-/// The binary operator whose record the window begins with.
-#[inline]
-fn binary_of(window: u64) -> Option<Kind> {
-    let [map, number, ..] = window.to_le_bytes();
-    let binary = map == 1 && (kind::UNION..=kind::LTL_UNTIL).contains(&number);
-    Kind::from_number(number).filter(|_| binary)
+/// Eight bytes of the window as a number, the first one lowest.
+#[inline(always)]
+fn word_at<const AT: usize>(window: &[u8; 16]) -> u64 {
+    u64::from_le_bytes(window[AT..AT + 8].try_into().expect("eight bytes"))
 }
 
-/// The Assign or Test whose record, of good form, the window begins with, and its length. There is no branch on the value, as it
-/// would be mispredicted on every other test.
-#[inline]
-fn atom_of(window: u64) -> Option<(Slot, usize)> {
-    const START: u64 = 1 << 2;
-    const MAP: u64 = 1 | START | 1 << 5;
-    let [map, number, ..] = window.to_le_bytes();
-    let kind = match number {
-        kind::ASSIGN => Kind::Assign,
-        kind::TEST => Kind::Test,
-        _ => return None,
-    };
-    if u64::from(map) & !MAP != 0 || map & 1 == 0 {
-        return None;
-    }
-    let value = u64::from(map) >> 5 & 1;
-    let (field, behind, length) =
-        if window & START != 0 { ((window >> 16) as u32, window >> 48, 6) } else { (0, window >> 16, 2) };
-    let zero_written = window & START != 0 && field == 0;
-    let bad_value = value & u64::from(behind as u8 != 1) != 0;
-    if zero_written || bad_value {
-        return None;
-    }
-    Some((Slot { kind, value: value != 0, number: field }, length + value as usize))
+/// Whether the word begins with the record of a binary operator.
+#[inline(always)]
+fn is_binary(word: u64) -> bool {
+    let [map, number, ..] = word.to_le_bytes();
+    map == 1 && (kind::UNION..=kind::LTL_UNTIL).contains(&number)
+}
+
+/// The slot of the operator that the word begins with.
+#[inline(always)]
+fn operator(word: u64) -> Slot {
+    Slot::new(Kind::from_number((word >> 8) as u8).unwrap_or(Kind::Zero))
+}
+
+/// Whether the word begins with the record, of good form, of an Assign or Test of a field but 0. There is no branch on the value,
+/// here and below: it would be mispredicted on every other test.
+#[inline(always)]
+fn is_atom(word: u64) -> bool {
+    const NUMBER: u16 = 1 << 5;
+    // The map has a kind and a start, and perhaps a number, which can only be 1. The kind follows.
+    let head = (word as u16 & !NUMBER).wrapping_sub(0x0505);
+    let written = (word >> 48) as u8;
+    (head & !0x0100 == 0) & (word >> 16 & 0xffff_ffff != 0) & ((word >> 5 & 1) & u64::from(written != 1) == 0)
+}
+
+#[inline(always)]
+fn atom(word: u64) -> Slot {
+    let kind = if word & 0x0100 != 0 { Kind::Assign } else { Kind::Test };
+    Slot { kind, value: word & 1 << 5 != 0, number: (word >> 16) as u32 }
+}
+
+#[inline(always)]
+fn atom_length(word: u64) -> usize {
+    6 + (word >> 5 & 1) as usize
 }
 
 /// The slot of a record of the core, before its second child is known.
@@ -215,7 +250,7 @@ fn to_node(slot: &Slot, mut child: impl FnMut() -> Exp) -> Exp {
 
 /// The slots of an expression that has only kinds of the core, else 2 at the first node of another kind.
 pub(crate) fn of_expr(expr: &Expr) -> Result<Vec<Slot>, Refusal> {
-    let mut builder = Builder::with_capacity(0);
+    let mut builder = Builder::new(Vec::new());
     for (place, node) in expr.nodes().enumerate() {
         let pushed = slot_of(&node.record()).ok_or(2).and_then(|slot| builder.push(slot));
         pushed.map_err(|number| refusal(number, place))?;

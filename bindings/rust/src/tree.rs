@@ -4,7 +4,7 @@ use std::fmt;
 
 use crate::debug::{self, Shown};
 use crate::record::{kind, refusal, Input, Record, NAMES};
-use crate::{Exp, Expr, Refusal};
+use crate::{Exp, Expr, Pattern, Refusal};
 
 const MAX_RECORDS: usize = 4_096;
 const MAX_LEVELS: usize = 256;
@@ -73,18 +73,50 @@ pub(crate) fn decode(bytes: &[u8]) -> Result<Exp, Refusal> {
 /// Appends the bytes of the tree, or gives the refusal that form would give if they could be written.
 pub(crate) fn encode(root: &Expr, bytes: &mut Vec<u8>) -> Result<(), Refusal> {
     let mut pending = Vec::new();
-    let mut next = Some((root, 1));
-    let mut place = 0;
-    while let Some((node, level)) = next {
-        let written = admit(place, level).and_then(|()| node.record().write(bytes));
-        written.map_err(|number| refusal(number, place))?;
+    let (mut next, mut level, mut place) = (root, 1, 0);
+    loop {
+        admit(place, level).and_then(|()| write(next, bytes)).map_err(|number| refusal(number, place))?;
         place += 1;
-        let [first, second, third] = node.children().map(|child| child.map(|child| (child, level + 1)));
-        pending.extend(third);
-        pending.extend(second);
-        next = first.or_else(|| pending.pop());
+        let [first, second, third] = next.children();
+        match first {
+            Some(first) => {
+                level += 1;
+                pending.extend(third.map(|third| (third, level)));
+                pending.extend(second.map(|second| (second, level)));
+                next = first;
+            }
+            None => match pending.pop() {
+                Some((node, of_level)) => (next, level) = (node, of_level),
+                None => return Ok(()),
+            },
+        }
     }
-    Ok(())
+}
+
+/// Appends the record of a node. Each kind has an arm of its own, so that the fields it does not have cost nothing.
+#[inline]
+fn write(node: &Expr, out: &mut Vec<u8>) -> Result<(), u32> {
+    match node {
+        Expr::VarMatch(name, pattern) => match pattern {
+            Pattern::Exact(a) => Record { name: *name, a: a.as_slice(), ..Record::new(kind::VAR_MATCH) }.write(out),
+            _ => Record { name: *name, ..Record::new(kind::VAR_MATCH) }.with_pattern(pattern).write(out),
+        },
+        Expr::BitRangeMatch(start, end, pattern) => {
+            Record { start: *start, end: *end, ..Record::new(kind::BIT_RANGE_MATCH) }.with_pattern(pattern).write(out)
+        }
+        Expr::VarAssign(name, bits) => Record { name: *name, a: bits.as_slice(), ..Record::new(kind::VAR_ASSIGN) }.write(out),
+        Expr::VarTest(name, bits) => Record { name: *name, a: bits.as_slice(), ..Record::new(kind::VAR_TEST) }.write(out),
+        Expr::Assign(..) | Expr::Test(..) | Expr::Let(..) | Expr::LetBitRange(..) | Expr::Var(_) => node.record().write(out),
+        Expr::BitRangeAssign(..) | Expr::BitRangeTest(..) => node.record().write(out),
+        Expr::Zero => {
+            out.push(0);
+            Ok(())
+        }
+        _ => {
+            out.extend_from_slice(&[1, node.record().kind]);
+            Ok(())
+        }
+    }
 }
 
 /// Drops all that is below a node. The node keeps leaves as children.
