@@ -12,11 +12,14 @@
 //! assert_eq!(bytes::check(&[1, 20]).unwrap_err().number, 12);
 //! ```
 
+use crate::limits::{MAX_LITERAL_BITS, MAX_RECORDS};
 use crate::{desugarer, ffi, Refusal};
 
-/// No term of good form is longer: 4,096 records, and none longer than one with a map, a kind, start and end, a pattern and two
-/// literals of 128 bits.
-const MAX_TERM_BYTES: usize = 4_096 * (1 + 1 + 4 + 4 + 1 + 17 + 17);
+/// The most bytes of a literal, with its length.
+const MAX_LITERAL_BYTES: usize = 1 + MAX_LITERAL_BITS.div_ceil(8);
+
+/// No term of good form is longer: no record is longer than one with a map, a kind, start and end, a pattern and two literals.
+const MAX_TERM_BYTES: usize = MAX_RECORDS * (1 + 1 + 4 + 4 + 1 + 2 * MAX_LITERAL_BYTES);
 
 /// Form, then the rules 11 to 23. True if the term is a test.
 pub fn check(term: &[u8]) -> Result<bool, Refusal> {

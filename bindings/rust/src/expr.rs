@@ -315,8 +315,8 @@ impl Expr {
         tree::decode(bytes)
     }
 
-    /// The bytes of the term. Refused by 5 for a literal of more than 128 bits or a CIDR prefix above 255, by 6 for more than 4,096
-    /// nodes, by 7 for more than 256 levels.
+    /// The bytes of the term. Refused by 5 for a literal or a CIDR prefix, by 6 for a number of nodes and by 7 for a number of levels that
+    /// is beyond the [`limits`](crate::limits).
     ///
     /// ```
     /// use netkat::Expr;

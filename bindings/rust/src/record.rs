@@ -1,5 +1,6 @@
 //! One record of the byte form, without its children: the requirement's "Term bytes".
 
+use crate::limits::{MAX_CIDR_PREFIX, MAX_LITERAL_BITS};
 use crate::{Pattern, Refusal};
 
 /// The kind numbers. 0 to 15 are the core.
@@ -35,8 +36,6 @@ pub(crate) mod kind {
     pub const LAST_OF_CORE: u8 = LTL_NEXT;
     pub const LAST: u8 = VAR_MATCH;
 }
-
-const MAX_LITERAL: usize = 128;
 
 /// The bits of the map byte, in the order of the fields.
 const KIND: u8 = 1 << 0;
@@ -109,7 +108,7 @@ impl<'a> Record<&'a [bool]> {
     /// Appends the bytes of the record. Refused by 5 if a field is too large for its place.
     #[inline(always)]
     pub fn write(&self, out: &mut Vec<u8>) -> Result<(), u32> {
-        if self.number > usize::from(u8::MAX) || self.a.len() > MAX_LITERAL || self.b.len() > MAX_LITERAL {
+        if self.number > MAX_CIDR_PREFIX || self.a.len() > MAX_LITERAL_BITS || self.b.len() > MAX_LITERAL_BITS {
             return Err(5);
         }
         let map = self.map();
@@ -246,7 +245,7 @@ impl<'a> Input<'a> {
 
     fn literal(&mut self) -> Result<Vec<bool>, u32> {
         let length = usize::from(nonzero(self.byte()?)?);
-        if length > MAX_LITERAL {
+        if length > MAX_LITERAL_BITS {
             return Err(5);
         }
         let packed = self.take(length.div_ceil(8))?;
@@ -269,7 +268,7 @@ fn nonzero<T: Default + PartialEq>(value: T) -> Result<T, u32> {
 
 /// Appends a literal's length byte and its bits. The literal has at most 128 bits.
 fn write_literal(bits: &[bool], out: &mut Vec<u8>) {
-    let mut packed = [0; 1 + MAX_LITERAL / 8];
+    let mut packed = [0; 1 + MAX_LITERAL_BITS / 8];
     packed[0] = bits.len() as u8;
     let chunks = bits.chunks_exact(8);
     let rest = chunks.remainder();

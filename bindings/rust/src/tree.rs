@@ -3,11 +3,9 @@
 use std::fmt;
 
 use crate::debug::{self, Shown};
+use crate::limits::{MAX_LEVELS, MAX_RECORDS};
 use crate::record::{kind, refusal, Input, Record, NAMES};
 use crate::{Exp, Expr, Pattern, Refusal};
-
-const MAX_RECORDS: usize = 4_096;
-const MAX_LEVELS: usize = 256;
 
 /// Refuses a record by its index and its level, as form does before it reads the record.
 fn admit(place: usize, level: usize) -> Result<(), u32> {

@@ -198,6 +198,24 @@ fn cores() {
     assert_eq!(core.root().children().nth(1).unwrap().to_string(), "x0 == 0 ; 0");
 }
 
+/// The lines that the README shows for examples/policy.rs.
+#[test]
+fn output_in_the_readme() {
+    let mut names = Names::new();
+    let dst = names.intern("dst");
+    let policy = |prefix_len| {
+        let guests = Pattern::Cidr { address: bits(160, 8), prefix_len };
+        let allow = Expr::if_then_else(Expr::var_match(dst, guests), Expr::assign(8, true), Expr::zero());
+        Expr::let_bit_range(dst, 0, 8, allow)
+    };
+    let refusal = desugar(&policy(9)).unwrap_err();
+    let lines =
+        format!("{}\n{}\n{}", policy(3).display(&names), desugar(&policy(3)).unwrap(), refusal.explain(&policy(9), &names));
+    for line in lines.lines() {
+        assert!(include_str!("../README.md").contains(&format!("   {line}\n")), "{line}");
+    }
+}
+
 /// On a stack that is far too small for recursion over the tree.
 #[test]
 fn deep_trees() {

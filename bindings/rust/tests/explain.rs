@@ -2,6 +2,7 @@
 
 mod common;
 
+use netkat::limits::MAX_LITERAL_BITS;
 use netkat::{bits, Desugarer, Exp, Expr, Names, Pattern, Refusal};
 
 /// Names with the words of the cases: a is 0, b is 1, v is 2, "two words" is 3.
@@ -235,7 +236,7 @@ fn spent_allowances() {
 fn form() {
     case(
         Expr::union(Expr::one(), Expr::var_test(A, bits(0, 1_129))),
-        "the value has 1,129 bits, and 128 are the limit (record 2, refusal 5)",
+        &format!("the value has 1,129 bits, and {MAX_LITERAL_BITS} are the limit (record 2, refusal 5)"),
         &format!("a ~ 0b{}…", "0".repeat(94)),
     );
     let long = || bits(0, 200);
@@ -246,13 +247,16 @@ fn form() {
     );
     assert_eq!(
         facts(Pattern::Wildcard { address: bits(0, 4), mask: long() }),
-        "the wildcard's mask has 200 bits, and 128 are the limit (record 0, refusal 5)"
+        format!("the wildcard's mask has 200 bits, and {MAX_LITERAL_BITS} are the limit (record 0, refusal 5)")
     );
     assert_eq!(
         facts(Pattern::IpRange { start: long(), end: long() }),
-        "the start of the range pattern has 200 bits, and 128 are the limit (record 0, refusal 5)"
+        format!("the start of the range pattern has 200 bits, and {MAX_LITERAL_BITS} are the limit (record 0, refusal 5)")
     );
-    assert_eq!(facts(Pattern::Exact(long())), "the value has 200 bits, and 128 are the limit (record 0, refusal 5)");
+    assert_eq!(
+        facts(Pattern::Exact(long())),
+        format!("the value has 200 bits, and {MAX_LITERAL_BITS} are the limit (record 0, refusal 5)")
+    );
 
     let many = Expr::union_all((0..2_500).map(|_| Expr::dup()));
     let facts = "the policy has 4,999 expressions, and 4,096 are the limit (record 4096, refusal 6)";
