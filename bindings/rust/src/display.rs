@@ -101,13 +101,14 @@ impl Expr {
     /// | a value for a direct range that has not the range's width | value and width, `x[4..8] := 5/3` |
     /// | an empty literal, except in `x[3..3] := 0` | `0b` |
     /// | the test of an empty range | `x[3..3] == 0` |
-    /// | a CIDR address that has not 32 bits, or a prefix above 32 | `0xa0/3` |
-    /// | a wildcard whose address or mask has not 32 bits | `0xa0 mask 0b00011111` |
-    /// | a range pattern whose bounds have widths that the syntax cannot say | `0b01-0b0011` |
+    /// | a CIDR address that has not 32 bits, or a prefix above 32 | `160/3`, `0x0a/3` |
+    /// | a wildcard whose address or mask has not 32 bits | `160 mask 0b00011111` |
+    /// | a range pattern whose bounds have widths that the syntax cannot say | `0b01-0x3` |
     ///
-    /// Literals of 128 bits and more are written in full. There the original's parser refuses, wraps or panics, by value and build;
-    /// and its release and debug builds differ on a direct range that ends below its start. It recurses: about 1,600 parentheses one
-    /// in another are too many for a stack of 8 MB.
+    /// Other literals are written in decimal where that is read with their width, as an address if they have 32 bits, else in hexadecimal or
+    /// binary digits, as many as they have bits. From 128 bits on, the original's parser refuses, wraps or panics, by value and build.
+    /// It may want gigabytes for a value of a direct range that ends below its start. And it recurses: about 1,600 parentheses one in
+    /// another are too many for a stack of 8 MB.
     ///
     /// # Names
     ///
@@ -303,40 +304,45 @@ impl<N> Piece<N> {
 pub(crate) fn write<'a, N: Written<'a>>(root: N, names: Option<&Names>, out: &mut dyn fmt::Write) -> fmt::Result {
     let mut pending = vec![Piece::operand(root, Level::Open)];
     while let Some(piece) = pending.pop() {
-        match piece {
-            Piece::Text(text) => out.write_str(text)?,
-            Piece::Node { node, level, before_minus } => {
-                let shape = node.shape();
-                let number_last = matches!(&shape, Shape::Relation(relation) if relation.ends_in_number());
-                if shape.level() < level || before_minus && number_last {
-                    out.write_str("(")?;
-                    pending.push(Piece::Text(")"));
-                    write_front(shape, false, names, &mut pending, out)?;
-                } else {
-                    write_front(shape, before_minus, names, &mut pending, out)?;
-                }
+        let (node, level, before_minus) = match piece {
+            Piece::Text(text) => {
+                out.write_str(text)?;
+                continue;
             }
+            Piece::Node { node, level, before_minus } => (node, level, before_minus),
+        };
+        let shape = node.shape();
+        let number_last = matches!(&shape, Shape::Relation(relation) if relation.ends_in_number());
+        let parentheses = shape.level() < level || before_minus && number_last;
+        if parentheses {
+            out.write_str("(")?;
+            pending.push(Piece::Text(")"));
         }
+        write_front(&shape, names, out)?;
+        push_rest(shape, before_minus && !parentheses, &mut pending);
     }
     Ok(())
 }
 
-/// Writes what stands before the first operand, and puts the rest on the stack, last piece first.
-fn write_front<N>(
-    shape: Shape<'_, N>,
-    before_minus: bool,
-    names: Option<&Names>,
-    pending: &mut Vec<Piece<N>>,
-    out: &mut dyn fmt::Write,
-) -> fmt::Result {
+/// Writes what stands before the first operand.
+fn write_front<N>(shape: &Shape<'_, N>, names: Option<&Names>, out: &mut dyn fmt::Write) -> fmt::Result {
     match shape {
-        Shape::Word(text) => out.write_str(text)?,
-        Shape::Name(name) => write!(out, "{}", NameText(names, name))?,
-        Shape::Relation(relation) => write!(out, "{}", RelationText(names, &relation))?,
-        Shape::Prefix(operator, operand) => {
-            out.write_str(operator)?;
-            pending.push(Piece::operand(operand, Level::Prefix));
-        }
+        Shape::Word(text) | Shape::Prefix(text, _) => out.write_str(text),
+        Shape::Name(name) => write!(out, "{}", NameText(names, *name)),
+        Shape::Relation(relation) => write!(out, "{}", RelationText(names, relation)),
+        Shape::Star(_) | Shape::Infix(..) => Ok(()),
+        Shape::If(..) => out.write_str("if "),
+        Shape::Let(name, ..) => write!(out, "let {} = ", NameText(names, *name)),
+        Shape::LetBitRange(name, start, end, _) => write!(out, "let {} = &x[{start}..{end}] in ", NameText(names, *name)),
+    }
+}
+
+/// Puts the first operand and all behind it on the stack, the last piece first.
+fn push_rest<N>(shape: Shape<'_, N>, before_minus: bool, pending: &mut Vec<Piece<N>>) {
+    let open = |node| Piece::operand(node, Level::Open);
+    match shape {
+        Shape::Word(_) | Shape::Name(_) | Shape::Relation(_) => {}
+        Shape::Prefix(_, operand) => pending.push(Piece::operand(operand, Level::Prefix)),
         Shape::Star(operand) => pending.extend([Piece::Text("*"), Piece::operand(operand, Level::Star)]),
         Shape::Infix(operator, a, b) => {
             let (left, right) = operator.operands();
@@ -347,21 +353,11 @@ fn write_front<N>(
             ]);
         }
         Shape::If(condition, a, b) => {
-            out.write_str("if ")?;
-            let [condition, a, b] = [condition, a, b].map(|part| Piece::operand(part, Level::Open));
-            pending.extend([b, Piece::Text(" else "), a, Piece::Text(" then "), condition]);
+            pending.extend([open(b), Piece::Text(" else "), open(a), Piece::Text(" then "), open(condition)])
         }
-        Shape::Let(name, definition, body) => {
-            write!(out, "let {} = ", NameText(names, name))?;
-            let [definition, body] = [definition, body].map(|part| Piece::operand(part, Level::Open));
-            pending.extend([body, Piece::Text(" in "), definition]);
-        }
-        Shape::LetBitRange(name, start, end, body) => {
-            write!(out, "let {} = &x[{start}..{end}] in ", NameText(names, name))?;
-            pending.push(Piece::operand(body, Level::Open));
-        }
+        Shape::Let(_, definition, body) => pending.extend([open(body), Piece::Text(" in "), open(definition)]),
+        Shape::LetBitRange(_, _, _, body) => pending.push(open(body)),
     }
-    Ok(())
 }
 
 /// A name's word if the written syntax has it as a name, else `n` and the number.

@@ -42,11 +42,11 @@ impl Refusal {
     /// Numbers that are not about a record of a policy (1 to 4 and 8 about bytes, 9, 10, 26 to 28) give the sentence that the refusal's
     /// `Display` gives. So does a policy that is not the refused one, and then the text says so.
     pub fn explain(&self, policy: &Expr, names: &Names) -> String {
-        let outline = Outline::of(policy);
-        let place = self.place as usize;
         if !self.is_about_a_tree() {
             return self.to_string();
         }
+        let outline = Outline::of(policy);
+        let place = self.place as usize;
         let Some(spot) = outline.spots.get(place) else {
             return format!("{self}\n  the policy given here has no record {place}: it is not the one that was refused");
         };
