@@ -273,8 +273,12 @@ impl At<'_> {
 
     fn range_width(&self, start: &[bool], end: &[bool], fields: &Fields, width: usize) -> Option<String> {
         if width > MAX_RANGE_PATTERN_FIELDS {
-            let limit = "a range pattern can be matched against";
-            return Some(format!("{}, and {limit} {MAX_RANGE_PATTERN_FIELDS} at most", self.has_fields(fields, width)));
+            return Some(format!(
+                "{}, and a range pattern, here with bounds of {} and {}, can be matched against {MAX_RANGE_PATTERN_FIELDS} at most",
+                self.has_fields(fields, width),
+                count(start.len()),
+                plural(end.len(), "bit")
+            ));
         }
         if start.len().max(end.len()) <= width {
             return None;

@@ -146,7 +146,8 @@ fn widths_of_patterns() {
     );
     case(
         Expr::bit_range_match(0, 1_129, Pattern::IpRange { start: bits(1, 2), end: bits(2, 2) }),
-        "x[0..1129] has 1,129 fields, and a range pattern can be matched against 128 at most (record 0, refusal 20)",
+        "x[0..1129] has 1,129 fields, and a range pattern, here with bounds of 2 and 2 bits, can be matched against 128 at most \
+         (record 0, refusal 20)",
         "x[0..1129] ~ 0b01-0b10",
     );
     case(
