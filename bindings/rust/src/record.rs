@@ -266,7 +266,7 @@ fn nonzero<T: Default + PartialEq>(value: T) -> Result<T, u32> {
     }
 }
 
-/// Appends a literal's length byte and its bits. The literal has at most 128 bits.
+/// Appends the length byte and the bits of a literal that is within the limit.
 fn write_literal(bits: &[bool], out: &mut Vec<u8>) {
     let mut packed = [0; 1 + MAX_LITERAL_BITS / 8];
     packed[0] = bits.len() as u8;
