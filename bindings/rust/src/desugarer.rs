@@ -2,7 +2,8 @@ use std::cell::RefCell;
 use std::fmt;
 
 use crate::ffi::Memory;
-use crate::{tree, Core, Expr, Refusal};
+use crate::slots::{self, Slot};
+use crate::{tree, Core, Exp, Expr, Refusal};
 
 thread_local! {
     /// What [`desugar`] and `bytes::desugar` work with.
@@ -46,6 +47,21 @@ pub fn desugar(term: &Expr) -> Result<Core, Refusal> {
     with_kept(|desugarer| desugarer.desugar(term).map(|desugared| desugared.core))
 }
 
+/// The core of a term as an expression: what the original's `desugar` gives, and faster than `desugar(term)?.to_expr()`, as no
+/// [`Core`] is allocated on the way.
+///
+/// ```
+/// use netkat::{desugar, desugar_to_expr, Expr};
+///
+/// let policy = Expr::bit_range_test(0, 2, vec![true, false]);
+/// let core = desugar_to_expr(&policy).unwrap();
+/// assert_eq!(core, Expr::intersect(Expr::test(0, true), Expr::test(1, false)));
+/// assert_eq!(core, desugar(&policy).unwrap().to_expr());
+/// ```
+pub fn desugar_to_expr(term: &Expr) -> Result<Exp, Refusal> {
+    with_kept(|desugarer| desugarer.desugar_to_expr(term))
+}
+
 /// Desugars terms one after another in the same memory.
 ///
 /// The allowance limits how many core nodes the steps of a desugaring may make, 65,535 if nothing else is said. With it goes the
@@ -70,6 +86,10 @@ pub struct Desugarer {
     memory: Memory,
     /// The bytes of the term.
     term: Vec<u8>,
+    /// The core on the way to an expression.
+    slots: Vec<Slot>,
+    /// Parts of that expression.
+    complete: Vec<Exp>,
 }
 
 /// A core, and what it took to make it.
@@ -102,7 +122,7 @@ impl Desugarer {
     /// A desugarer with this allowance. If it is not 1 to 65,535, each call is refused by 9.
     pub fn with_allowance(allowance: u32) -> Self {
         let nodes = allowance.min(Self::MAX_ALLOWANCE) as usize;
-        Desugarer { allowance, memory: Memory::for_nodes(nodes), term: Vec::new() }
+        Desugarer { allowance, memory: Memory::for_nodes(nodes), term: Vec::new(), slots: Vec::new(), complete: Vec::new() }
     }
 
     /// The allowance.
@@ -116,6 +136,15 @@ impl Desugarer {
         tree::encode(term, &mut self.term)?;
         let (core, drawn) = self.memory.desugar(&self.term, self.allowance)?;
         Ok(Desugared { core: Core::of_library(core, drawn), drawn })
+    }
+
+    /// The core of a term as an expression, as [`desugar_to_expr`] gives it. Refused as [`Desugarer::desugar`] is.
+    pub fn desugar_to_expr(&mut self, term: &Expr) -> Result<Exp, Refusal> {
+        self.term.clear();
+        tree::encode(term, &mut self.term)?;
+        let (core, _) = self.memory.desugar(&self.term, self.allowance)?;
+        self.slots = slots::decode(core, std::mem::take(&mut self.slots)).expect("the library writes cores of good form");
+        Ok(slots::to_expr(&self.slots, &mut self.complete))
     }
 
     /// The bytes of the core of a term in bytes. Refused by 9, by form (1 to 8), by a rule (11 to 23), or by 24.

@@ -54,7 +54,7 @@ struct Readme;
 use std::ops::Range;
 
 pub use cores::{Core, CoreRecord};
-pub use desugarer::{desugar, release_memory, Desugared, DesugaredBytes, Desugarer};
+pub use desugarer::{desugar, desugar_to_expr, release_memory, Desugared, DesugaredBytes, Desugarer};
 pub use expr::{Exp, Expr, Pattern};
 pub use kinds::Kind;
 pub use names::Names;
