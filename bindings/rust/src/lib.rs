@@ -1,7 +1,7 @@
 //! From a written NetKAT policy to its one-bit core.
 //!
 //! Rust binding of `libnetkat.a`, whose functions are proved to answer as their requirement says, for every input. This crate
-//! turns trees into the library's bytes and its bytes into trees; it is tested, not proved.
+//! turns trees into the library's bytes and its bytes into cores; it is tested, not proved.
 //!
 //! ```
 //! use netkat::{bits, desugar, Expr, Names, Pattern};
@@ -25,7 +25,7 @@
 //! |---|---|
 //! | building terms | [`Expr`], [`Pattern`], [`Names`], [`bits`] |
 //! | judging a term without making its core | [`Expr::check`] |
-//! | making the core of one term, or of many | [`desugar()`], [`Desugarer`] |
+//! | making the core of a term | [`desugar()`]; with an allowance, [`Desugarer`]; as a boxed tree, [`desugar_to_expr`] |
 //! | what the core is | [`Core`], [`Node`], [`View`] |
 //! | why there is no answer | [`Refusal`] |
 //! | terms that are bytes already | [`bytes`] |

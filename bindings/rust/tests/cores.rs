@@ -177,8 +177,11 @@ fn expressions_that_are_no_cores() {
     }
 }
 
+/// Kind, field and value.
+type Plain = (u8, u32, bool);
+
 /// The records of a core, read plainly: the requirement's "Term bytes" with the kinds 0 to 15.
-fn plain_reading(bytes: &[u8]) -> Result<Vec<(u8, u32, bool)>, (u32, u32)> {
+fn plain_reading(bytes: &[u8]) -> Result<Vec<Plain>, (u32, u32)> {
     let mut records = Vec::new();
     let mut rest = bytes;
     let mut open = 1;
@@ -193,7 +196,7 @@ fn plain_reading(bytes: &[u8]) -> Result<Vec<(u8, u32, bool)>, (u32, u32)> {
     Ok(records)
 }
 
-fn plain_record(rest: &mut &[u8]) -> Result<(u8, u32, bool), u32> {
+fn plain_record(rest: &mut &[u8]) -> Result<Plain, u32> {
     fn number(rest: &mut &[u8], bytes: usize) -> Result<u32, u32> {
         if rest.len() < bytes {
             return Err(1);
