@@ -183,10 +183,17 @@ fn set_aside(child: Option<&mut Exp>, aside: &mut Vec<Expr>) {
     }
 }
 
+#[inline]
+fn has_inner_child(node: &Expr) -> bool {
+    let [first, second, third] = node.children();
+    let inner = |child: &Expr| !child.is_leaf();
+    first.is_some_and(inner) || second.is_some_and(inner) || third.is_some_and(inner)
+}
+
 impl Drop for Expr {
     #[inline]
     fn drop(&mut self) {
-        if !self.is_leaf() && !Expr::children(self).into_iter().flatten().all(Expr::is_leaf) {
+        if !self.is_leaf() && has_inner_child(self) {
             drop_below(self);
         }
     }
