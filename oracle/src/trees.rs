@@ -7,14 +7,17 @@ const ROUNDS: usize = 41;
 /// Calls are timed together until they take about this long.
 const BATCH_MICROSECONDS: f64 = 500.0;
 const MOST_CALLS: f64 = 5000.0;
+/// Bytes of a large piece of memory.
+const LARGE: usize = 100_000;
 
 // What is timed, as indexes.
 const ORIGINAL: usize = 0; // the original's desugar
 const CORE: usize = 1; // netkat::desugar, to a flat core
 const DESUGARER: usize = 2; // the same by a netkat::Desugarer
 const BOXED: usize = 3; // netkat::desugar, then to_expr: a boxed tree as the original gives
-const BYTES: usize = 4; // term bytes to core bytes by a netkat::Desugarer
-const TIMED: usize = 5;
+const DIRECT: usize = 4; // netkat::desugar_to_expr: the same without a flat core in between
+const BYTES: usize = 5; // term bytes to core bytes by a netkat::Desugarer
+const TIMED: usize = 6;
 
 struct Policy {
     name: String,
@@ -57,6 +60,10 @@ enum Freed {
 
 /// Microseconds of one call, from `calls` of them.
 fn microseconds<T>(calls: usize, freed: Freed, mut call: impl FnMut() -> T) -> f64 {
+    // What was timed before leaves its freed memory in small pieces. The allocator joins them when a large piece is wanted: not in
+    // the time of the next.
+    drop(black_box(Vec::<u8>::with_capacity(LARGE)));
+    drop(black_box(call()));
     let mut kept = Vec::with_capacity(calls);
     let begin = cpu_seconds();
     for _ in 0..calls {
@@ -76,6 +83,7 @@ fn measure(p: &Policy, what: usize, calls: usize, freed: Freed, desugarer: &mut 
         CORE => microseconds(calls, freed, || netkat::desugar(term).unwrap()),
         DESUGARER => microseconds(calls, freed, || desugarer.desugar(term).unwrap()),
         BOXED => microseconds(calls, freed, || netkat::desugar(term).unwrap().to_expr()),
+        DIRECT => microseconds(calls, freed, || netkat::desugar_to_expr(term).unwrap()),
         _ => microseconds(calls, freed, || desugarer.desugar_bytes(black_box(&p.bytes)).unwrap().core.len()),
     }
 }
@@ -85,7 +93,6 @@ fn rounds(p: &Policy, freed: Freed) -> Vec<[f64; TIMED]> {
     let mut desugarer = netkat::Desugarer::new();
     let mut calls = [0; TIMED];
     for what in 0..TIMED {
-        measure(p, what, 2, freed, &mut desugarer);
         let one = measure(p, what, 2, freed, &mut desugarer);
         calls[what] = (BATCH_MICROSECONDS / one).ceil().clamp(1.0, MOST_CALLS) as usize;
     }
@@ -102,8 +109,11 @@ fn rounds(p: &Policy, freed: Freed) -> Vec<[f64; TIMED]> {
 }
 
 fn table(policies: &[Policy], freed: Freed) {
-    println!("| policy | nodes | original | core | `Desugarer` | boxed | bytes | core / original | `Desugarer` / original | boxed / original |");
-    println!("|{}", "---|".repeat(10));
+    println!(
+        "| policy | nodes | original | core | `Desugarer` | boxed | direct | bytes | core / original | `Desugarer` / original | \
+         boxed / original | direct / original |"
+    );
+    println!("|{}", "---|".repeat(12));
     for p in policies {
         let all = rounds(p, freed);
         let time = |what: usize| {
@@ -115,8 +125,9 @@ fn table(policies: &[Policy], freed: Freed) {
             format!("{median:.3} ({low:.3} to {high:.3})")
         };
         println!(
-            "| {} | {} | {} | {} | {} | {} | {} | {} | {} | {} |",
-            p.name, p.nodes, time(ORIGINAL), time(CORE), time(DESUGARER), time(BOXED), time(BYTES), ratio(CORE), ratio(DESUGARER), ratio(BOXED)
+            "| {} | {} | {} | {} | {} | {} | {} | {} | {} | {} | {} | {} |",
+            p.name, p.nodes, time(ORIGINAL), time(CORE), time(DESUGARER), time(BOXED), time(DIRECT), time(BYTES), ratio(CORE),
+            ratio(DESUGARER), ratio(BOXED), ratio(DIRECT)
         );
     }
 }
@@ -125,7 +136,7 @@ pub fn run(folder: &str) -> bool {
     let policies: Vec<Policy> = policies::small_and_lists().into_iter().chain(load(folder)).map(prepare).collect();
     println!("Microseconds of processor time, medians of {ROUNDS} rounds; ratios of one round, median (lower quartile to upper quartile).");
     println!("original: its desugar on a built tree. core: netkat::desugar on a built tree. boxed: the same with to_expr.");
-    println!("bytes: term bytes to core bytes.\n");
+    println!("direct: netkat::desugar_to_expr. bytes: term bytes to core bytes.\n");
     println!("Results freed outside the time:\n");
     table(&policies, Freed::Outside);
     println!("\nResults freed inside the time:\n");

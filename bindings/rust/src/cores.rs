@@ -142,7 +142,7 @@ impl Core {
     /// assert_eq!(desugar(&policy).unwrap().to_expr(), Expr::test(0, false));
     /// ```
     pub fn to_expr(&self) -> Exp {
-        slots::to_expr(&self.slots)
+        slots::to_expr(&self.slots, &mut Vec::new())
     }
 
     /// The root.

@@ -442,8 +442,30 @@ impl Expr {
         children!(self)
     }
 
-    pub(crate) fn children_mut(&mut self) -> [Option<&mut Expr>; 3] {
+    #[inline]
+    pub(crate) fn children_mut(&mut self) -> [Option<&mut Exp>; 3] {
         children!(self)
+    }
+
+    /// Whether the node has no children; a test of one bit, where [`Expr::children`] is a jump.
+    #[inline]
+    pub(crate) fn is_leaf(&self) -> bool {
+        !matches!(
+            self,
+            Expr::Union(..)
+                | Expr::Intersect(..)
+                | Expr::Xor(..)
+                | Expr::Difference(..)
+                | Expr::Sequence(..)
+                | Expr::LtlUntil(..)
+                | Expr::Let(..)
+                | Expr::Complement(_)
+                | Expr::Star(_)
+                | Expr::LtlNext(_)
+                | Expr::TestNegation(_)
+                | Expr::LetBitRange(..)
+                | Expr::IfThenElse(..)
+        )
     }
 
     /// The node without its children.

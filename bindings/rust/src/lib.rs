@@ -1,7 +1,7 @@
 //! From a written NetKAT policy to its one-bit core.
 //!
 //! Rust binding of `libnetkat.a`, whose functions are proved to answer as their requirement says, for every input. This crate
-//! turns trees into the library's bytes and its bytes into trees; it is tested, not proved.
+//! turns trees into the library's bytes and its bytes into cores; it is tested, not proved.
 //!
 //! ```
 //! use netkat::{desugar, Expr, Names, Pattern};
@@ -29,7 +29,7 @@
 //! | addresses, prefixes and wildcards | [`Pattern::ipv4_prefix`], [`ParsePatternError`] |
 //! | terms and cores as text | [`Expr::display`] |
 //! | judging a term without making its core | [`Expr::check`] |
-//! | making the core of one term, or of many | [`desugar()`], [`Desugarer`] |
+//! | making the core of a term | [`desugar()`]; with an allowance, [`Desugarer`]; as a boxed tree, [`desugar_to_expr`] |
 //! | what the core is | [`Core`], [`Node`], [`View`] |
 //! | why there is no answer | [`Refusal`], [`Refusal::explain`] |
 //! | how large a policy can be, and what to do with more | [`limits`] |
@@ -70,7 +70,7 @@ use std::ops::Range;
 
 pub use addresses::{bits_of_ipv4, bits_of_ipv6, ParsePatternError};
 pub use cores::{Core, CoreRecord};
-pub use desugarer::{desugar, release_memory, Desugared, DesugaredBytes, Desugarer};
+pub use desugarer::{desugar, desugar_to_expr, release_memory, Desugared, DesugaredBytes, Desugarer};
 pub use display::ExprDisplay;
 pub use expr::{Exp, Expr, Pattern};
 pub use kinds::Kind;

@@ -137,7 +137,7 @@ impl<'a> Node<'a> {
 
     /// The tree below the node as an expression.
     pub fn to_expr(self) -> Exp {
-        slots::to_expr(self.below())
+        slots::to_expr(self.below(), &mut Vec::new())
     }
 
     fn child_nodes(self) -> [Option<Self>; 2] {

@@ -130,12 +130,8 @@ pub(crate) fn decode(bytes: &[u8], slots: Vec<Slot>) -> Result<Vec<Slot>, Refusa
 
 /// The slot and the length of the record of good form that the bytes begin with.
 fn slot_of_bytes(bytes: &[u8]) -> Option<(Slot, usize)> {
-    let mut window = [0; 8];
-    for (to, from) in window.iter_mut().zip(bytes) {
-        *to = *from;
-    }
-    let [map, number, value, ..] = window;
-    let word = u64::from_le_bytes(window);
+    let word = first_word(bytes);
+    let [map, number, value, ..] = word.to_le_bytes();
     if map == 0 {
         return Some((Slot::new(Kind::Zero), 1));
     }
@@ -144,6 +140,19 @@ fn slot_of_bytes(bytes: &[u8]) -> Option<(Slot, usize)> {
         1 if kind != Kind::Zero => Some((Slot::new(kind), 2)),
         0x21 if matches!(kind, Kind::Assign | Kind::Test) && value == 1 => Some((Slot { value: true, ..Slot::new(kind) }, 3)),
         _ => is_atom(word).then(|| (atom(word), atom_length(word))),
+    }
+}
+
+/// The first eight bytes as a number, the first one lowest; where there are fewer, zeros.
+#[inline]
+fn first_word(bytes: &[u8]) -> u64 {
+    match (bytes.first_chunk(), bytes.first_chunk(), bytes.last_chunk()) {
+        (Some(word), ..) => u64::from_le_bytes(*word),
+        // Four bytes from either end; where they overlap they are the same.
+        (None, Some(front), Some(back)) => {
+            u64::from(u32::from_le_bytes(*front)) | u64::from(u32::from_le_bytes(*back)) << (8 * (bytes.len() - 4))
+        }
+        _ => bytes.iter().rev().fold(0, |word, byte| word << 8 | u64::from(*byte)),
     }
 }
 
@@ -214,10 +223,9 @@ pub(crate) fn encode(slots: &[Slot]) -> Vec<u8> {
     bytes
 }
 
-/// The boxed tree of the slots of a whole tree.
-pub(crate) fn to_expr(slots: &[Slot]) -> Exp {
+/// The boxed tree of the slots of a whole tree. `complete` is empty before and after.
+pub(crate) fn to_expr(slots: &[Slot], complete: &mut Vec<Exp>) -> Exp {
     // From the last node to the first: a node's children are complete before it, its first child on top.
-    let mut complete: Vec<Exp> = Vec::new();
     for slot in slots.iter().rev() {
         let node = to_node(slot, || complete.pop().expect("the nodes of a whole tree"));
         complete.push(node);

@@ -104,7 +104,11 @@ fn write(node: &Expr, out: &mut Vec<u8>) -> Result<(), u32> {
         }
         Expr::VarAssign(name, bits) => Record { name: *name, a: bits.as_slice(), ..Record::new(kind::VAR_ASSIGN) }.write(out),
         Expr::VarTest(name, bits) => Record { name: *name, a: bits.as_slice(), ..Record::new(kind::VAR_TEST) }.write(out),
-        Expr::Assign(..) | Expr::Test(..) | Expr::Let(..) | Expr::LetBitRange(..) | Expr::Var(_) => node.record().write(out),
+        Expr::Assign(field, value) => {
+            Record { start: *field, number: usize::from(*value), ..Record::new(kind::ASSIGN) }.write(out)
+        }
+        Expr::Test(field, value) => Record { start: *field, number: usize::from(*value), ..Record::new(kind::TEST) }.write(out),
+        Expr::Let(..) | Expr::LetBitRange(..) | Expr::Var(_) => node.record().write(out),
         Expr::BitRangeAssign(..) | Expr::BitRangeTest(..) => node.record().write(out),
         Expr::Zero => {
             out.push(0);
@@ -117,27 +121,79 @@ fn write(node: &Expr, out: &mut Vec<u8>) -> Result<(), u32> {
     }
 }
 
-/// Drops all that is below a node. The node keeps leaves as children.
-fn drop_below(node: &mut Expr) {
-    let mut pending = Vec::new();
-    take_inner_children(node, &mut pending);
-    while let Some(mut node) = pending.pop() {
-        take_inner_children(&mut node, &mut pending);
+/// Drops all that is below a node, which keeps leaves as children.
+///
+/// A child cannot be moved out of a node without another in its place, and to move what is in its box is slow. So a grandchild
+/// changes places with a leaf beside its parent; the parent then has only leaves, and is dropped without going deeper. Only where a
+/// node has two children with children one of them is set aside.
+fn drop_below(root: &mut Expr) {
+    let mut aside = Vec::new();
+    drop_deepest(root, &mut aside);
+    while let Some(mut node) = aside.pop() {
+        drop_deepest(&mut node, &mut aside);
     }
 }
 
-/// Moves out those children that have children themselves.
-fn take_inner_children(node: &mut Expr, into: &mut Vec<Expr>) {
-    for child in node.children_mut().into_iter().flatten() {
-        if child.children()[0].is_some() {
-            into.push(std::mem::take(child));
+fn drop_deepest(node: &mut Expr, aside: &mut Vec<Expr>) {
+    loop {
+        match node.children_mut() {
+            [Some(first), Some(second), third] => {
+                set_aside(third, aside);
+                match (first.is_leaf(), second.is_leaf()) {
+                    (true, true) => return,
+                    (true, false) => lift(first, second, aside),
+                    (false, true) => lift(second, first, aside),
+                    (false, false) => set_aside(Some(first), aside),
+                }
+            }
+            [Some(child), ..] if !child.is_leaf() => {
+                let child = std::mem::take(&mut **child);
+                *node = child;
+            }
+            _ => return,
         }
     }
 }
 
+/// Drops the parent, whose box becomes a leaf. Of its children with children, one takes the leaf's place.
+#[inline]
+fn lift(leaf: &mut Exp, parent: &mut Exp, aside: &mut Vec<Expr>) {
+    let [first, second, third] = parent.children_mut();
+    let inner = |child: &&mut Exp| !child.is_leaf();
+    let (first, second) = (first.filter(inner), second.filter(inner));
+    set_aside(third, aside);
+    match (first, second) {
+        (Some(first), second) => {
+            set_aside(second, aside);
+            std::mem::swap(leaf, first);
+        }
+        (None, Some(second)) => std::mem::swap(leaf, second),
+        (None, None) => {}
+    }
+    **parent = Expr::Zero;
+}
+
+/// Moves the child out of its box, if it has children.
+#[inline]
+fn set_aside(child: Option<&mut Exp>, aside: &mut Vec<Expr>) {
+    if let Some(child) = child.filter(|child| !child.is_leaf()) {
+        aside.push(std::mem::take(&mut **child));
+    }
+}
+
+#[inline]
+fn has_inner_child(node: &Expr) -> bool {
+    let [first, second, third] = node.children();
+    let inner = |child: &Expr| !child.is_leaf();
+    first.is_some_and(inner) || second.is_some_and(inner) || third.is_some_and(inner)
+}
+
 impl Drop for Expr {
+    #[inline]
     fn drop(&mut self) {
-        drop_below(self);
+        if !self.is_leaf() && has_inner_child(self) {
+            drop_below(self);
+        }
     }
 }
 
