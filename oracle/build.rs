@@ -1,5 +1,8 @@
 //! Copies the original's files, unchanged, from the folder ORACLE_SEEDS to OUT_DIR and writes OUT_DIR/modules.rs, which main.rs
-//! includes. Links libnetkat.a from NETKAT_LIB_DIR, or from target/staticlib of the project.
+//! includes. Links libnetkat.a from NETKAT_LIB_DIR, or from target/staticlib of the project, where it is built if it is missing or stale.
+#[path = "../bindings/rust/build/archive.rs"]
+mod archive;
+
 use std::{env, fs, path::Path, process::exit};
 
 fn fail(message: String) -> ! {
@@ -9,7 +12,6 @@ fn fail(message: String) -> ! {
 
 fn main() {
     println!("cargo::rerun-if-env-changed=ORACLE_SEEDS");
-    println!("cargo::rerun-if-env-changed=NETKAT_LIB_DIR");
     let Ok(seeds) = env::var("ORACLE_SEEDS") else {
         fail("ORACLE_SEEDS is not set: it names the folder with the original's expr.rs and desugar.rs".into())
     };
@@ -29,12 +31,10 @@ fn main() {
     }
     fs::write(format!("{out}/modules.rs"), modules).unwrap();
 
-    let project = format!("{}/../target/staticlib", env::var("CARGO_MANIFEST_DIR").unwrap());
-    let library = env::var("NETKAT_LIB_DIR").unwrap_or(project);
-    println!("cargo::rerun-if-changed={library}/libnetkat.a");
-    if !Path::new(&format!("{library}/libnetkat.a")).exists() {
-        fail(format!("no {library}/libnetkat.a: `rt staticlib netkat` makes it"))
-    }
-    println!("cargo::rustc-link-search=native={library}");
+    println!("cargo::rerun-if-changed=build.rs");
+    println!("cargo::rerun-if-changed=../bindings/rust/build/archive.rs");
+    let project = format!("{}/..", env::var("CARGO_MANIFEST_DIR").unwrap());
+    let library = archive::folder(Path::new(&project)).unwrap_or_else(|message| fail(message));
+    println!("cargo::rustc-link-search=native={}", library.display());
     println!("cargo::rustc-link-lib=static=netkat");
 }

@@ -2,7 +2,7 @@
 # Compares the model, the original, the port and second.py. Prints what was compared; ends with 1 on a difference.
 #   ORACLE_SEEDS   folder with the original's expr.rs and desugar.rs (or src--src--expr.rs.txt and src--src--desugar.rs.txt)
 #   SEED (1), COUNT (300000) random inputs, THREADS (1)
-# Needs cargo and python3; also the Rattle kit (rt), unless target/staticlib/libnetkat.a is there.
+# Needs cargo and python3; also the Rattle kit (rt), unless target/staticlib/libnetkat.a is there and not stale.
 here=$(dirname "$0")
 . "$here/prepare.sh"
 SEED=${SEED:-1} COUNT=${COUNT:-300000} THREADS=${THREADS:-1}

@@ -39,7 +39,7 @@ struct Buffers {
     copy: Vec<u8>,
 }
 
-fn load(folder: &str) -> Vec<(String, Vec<u8>)> {
+pub fn load(folder: &str) -> Vec<(String, Vec<u8>)> {
     let entries = std::fs::read_dir(folder).unwrap_or_else(|e| panic!("{folder}: {e}"));
     let mut paths: Vec<_> = entries.map(|e| e.unwrap().path()).filter(|p| p.extension().is_some_and(|x| x == "bin")).collect();
     paths.sort();
@@ -90,7 +90,7 @@ fn measure(p: &Policy, what: usize, calls: usize, b: &mut Buffers) -> f64 {
 }
 
 /// Lower quartile, median, upper quartile.
-fn quartiles(mut v: Vec<f64>) -> [f64; 3] {
+pub fn quartiles(mut v: Vec<f64>) -> [f64; 3] {
     v.sort_by(|a, b| a.total_cmp(b));
     [1, 2, 3].map(|q| v[(v.len() - 1) * q / 4])
 }

@@ -13,6 +13,7 @@ mod model;
 mod original;
 mod policies;
 mod port;
+mod trees;
 mod vectors;
 
 const USAGE: &str = "oracle replay FILE...                       vector files, through the model, the original and the port
@@ -23,6 +24,7 @@ oracle sample SEED COUNT BUDGET             random vector lines with the model's
 oracle answer                               completes the vector lines on standard input, from what stands before =>
 oracle show HEX                             what each makes of one term
 oracle bench FOLDER                         times of the port and of the original
+oracle bench-trees FOLDER                   times of bindings/rust and of the original, from tree to tree
 oracle terms FOLDER                         writes terms of growing size
 oracle once FILE                            one call of the port";
 
@@ -57,6 +59,7 @@ fn run(args: Vec<String>) -> bool {
         "answer" => vectors::answer(),
         "show" if args.len() == 3 => compare::show(&vectors::unhex(&args[2])),
         "bench" if args.len() == 3 => bench::run(&args[2]),
+        "bench-trees" if args.len() == 3 => trees::run(&args[2]),
         "terms" if args.len() == 3 => bench::terms(&args[2]),
         "once" if args.len() == 3 => bench::once(&args[2]),
         _ => {

@@ -72,6 +72,18 @@ fn access_list(count: u32) -> Node {
     with_aliases(two(SEQUENCE, joined(UNION, entries), send_to(1)))
 }
 
+/// `count` entries, each a source prefix and a port: many small leaves.
+fn prefix_list(count: u32) -> Node {
+    let mut r = Rng::new(3);
+    let entries = (0..count)
+        .map(|_| {
+            let source = prefix(SRC, 0x0a00_0000 | r.below(1 << 24) as u32, 16 + r.below(9) as u8);
+            two(INTERSECT, source, port_is(r.below(1 << 16) as u32))
+        })
+        .collect();
+    with_aliases(two(SEQUENCE, joined(UNION, entries), send_to(1)))
+}
+
 /// `count` rules, the first that matches counts: ifs in else branches, the last drops.
 fn first_match(count: u32) -> Node {
     let mut r = Rng::new(2);
@@ -117,6 +129,19 @@ pub fn all() -> Vec<(String, Vec<u8>)> {
     [("access list, 200 entries", access_list(200)), ("first match, 40 rules", first_match(40)), ("tenant isolation", tenants(24))]
         .map(|(name, tree)| (name.to_string(), encoded(&tree)))
         .into()
+}
+
+/// One test, and access lists of about 3,500 and 43,000 nodes, with ranges and without.
+pub fn small_and_lists() -> Vec<(String, Vec<u8>)> {
+    [
+        ("one test", Node { kind: TEST, start: 3, num: 1, ..Node::default() }),
+        ("access list, 50 prefixes", prefix_list(50)),
+        ("access list, 600 prefixes", prefix_list(600)),
+        ("access list, 12 entries", access_list(12)),
+        ("access list, 140 entries", access_list(140)),
+    ]
+    .map(|(name, tree)| (name.to_string(), encoded(&tree)))
+    .into()
 }
 
 /// The same policies from about 1,000 to about 60,000 drawn nodes, or to the deepest term that is allowed.

@@ -12,20 +12,24 @@
 //! assert_eq!(bytes::check(&[1, 20]).unwrap_err().number, 12);
 //! ```
 
-use crate::{ffi, Desugarer, Refusal};
+use crate::limits::{MAX_LITERAL_BITS, MAX_RECORDS};
+use crate::{desugarer, ffi, Refusal};
 
-/// No term of good form is longer: 4,096 records, and none longer than one with a map, a kind, start and end, a pattern and two
-/// literals of 128 bits.
-const MAX_TERM_BYTES: usize = 4_096 * (1 + 1 + 4 + 4 + 1 + 17 + 17);
+/// The most bytes of a literal, with its length.
+const MAX_LITERAL_BYTES: usize = 1 + MAX_LITERAL_BITS.div_ceil(8);
+
+/// No term of good form is longer: no record is longer than one with a map, a kind, start and end, a pattern and two literals.
+const MAX_TERM_BYTES: usize = MAX_RECORDS * (1 + 1 + 4 + 4 + 1 + 2 * MAX_LITERAL_BYTES);
 
 /// Form, then the rules 11 to 23. True if the term is a test.
 pub fn check(term: &[u8]) -> Result<bool, Refusal> {
     ffi::check(term).map(|(first, _)| first == 1)
 }
 
-/// The bytes of the term's core, at the greatest allowance. For many terms, or another allowance, see [`Desugarer`].
+/// The bytes of the term's core, at the greatest allowance. The work memory is kept for the thread's next
+/// call, as [`desugar()`](crate::desugar()) says. For another allowance see [`Desugarer`](crate::Desugarer).
 pub fn desugar(term: &[u8]) -> Result<Vec<u8>, Refusal> {
-    Desugarer::new().desugar_bytes(term).map(|desugared| desugared.core.to_vec())
+    desugarer::with_kept(|desugarer| desugarer.desugar_bytes(term).map(|desugared| desugared.core.to_vec()))
 }
 
 /// The bytes of the term with each occurrence of the variable replaced that does not lie in the body of a Let or LetBitRange of
@@ -42,9 +46,9 @@ pub fn substitute(term: &[u8], name: u16, replacement: &[u8]) -> Result<Vec<u8>,
     // A variable has two bytes or more, so there are not more of them than this.
     let occurrences = term.len() / 2;
     let enough = occurrences.saturating_mul(replacement.len()).saturating_add(term.len());
-    let mut out = vec![0; enough.min(MAX_TERM_BYTES)];
-    let (length, _) = ffi::substitute(term, name, replacement, &mut out)?;
-    out.truncate(length as usize);
+    let mut out = Vec::with_capacity(enough.min(MAX_TERM_BYTES));
+    ffi::substitute(term, name, replacement, &mut out)?;
+    out.shrink_to_fit();
     Ok(out)
 }
 

@@ -1,181 +1,220 @@
-use crate::record::{kind, Record};
-use crate::tree::{self, Limits, Tree};
-use crate::{Exp, Expr, Field, Refusal, Value};
+use std::fmt;
+
+use crate::debug;
+use crate::node::Node;
+use crate::slots::{self, Slot};
+use crate::{Exp, Expr, Field, Kind, Refusal, Value};
 
 /// A core: what desugaring makes of a term. It has one-bit tests and assignments, and no names, ranges, negation or if.
 ///
-/// A core can be as deep as it is large, some ten thousand levels. Encoding, decoding, cloning, comparing, printing and dropping do
-/// not recurse. Code that recurses over a core needs a stack to match; [`Core::nodes`] and an own stack do without.
-///
-/// Because of the drop, children cannot be moved out by a pattern. Match on a reference, or take a child and leave `Zero` in its
-/// place:
+/// The nodes lie one behind the other in one piece of memory, eight bytes each, in prefix order: a node, then its first child with
+/// all below it, then its second child with all below it. Start at [`Core::root`] and match on [`Node::view`], or go through all
+/// nodes by [`Core::nodes`] or [`Core::records`].
 ///
 /// ```
-/// use netkat::Core;
+/// use netkat::{desugar, Core, Expr, Node, View};
 ///
-/// let mut core = Core::Star(Box::new(Core::Test(0, true)));
-/// if let Core::Star(body) = &mut core {
-///     let body = std::mem::take(&mut **body);
-///     assert_eq!(body, Core::Test(0, true));
+/// /// How many tests stand on the way from the root to the deepest leaf, along first children.
+/// fn tests_on_the_left(core: &Core) -> usize {
+///     let mut node = core.root();
+///     loop {
+///         match node.view() {
+///             View::Union(a, _) | View::Intersect(a, _) | View::Sequence(a, _) => node = a,
+///             View::Star(a) => node = a,
+///             View::Test(_, _) => return 1,
+///             _ => return 0,
+///         }
+///     }
 /// }
+/// let policy = Expr::star(Expr::sequence(Expr::test(0, true), Expr::assign(1, true)));
+/// assert_eq!(tests_on_the_left(&desugar(&policy).unwrap()), 1);
 /// ```
-#[derive(Default)]
-pub enum Core {
-    /// Drops every packet.
-    #[default]
-    Zero,
-    /// Passes every packet.
-    One,
-    /// Everything.
-    Top,
-    /// Records the packet.
-    Dup,
-    /// The end of a trace.
-    End,
-    /// `field := value`
-    Assign(Field, Value),
-    /// `field == value`
-    Test(Field, Value),
-    /// `a + b`
-    Union(Box<Core>, Box<Core>),
-    /// `a & b`
-    Intersect(Box<Core>, Box<Core>),
-    /// `a ^ b`
-    Xor(Box<Core>, Box<Core>),
-    /// `a - b`
-    Difference(Box<Core>, Box<Core>),
-    /// `a ; b`
-    Sequence(Box<Core>, Box<Core>),
-    /// `a U b`
-    LtlUntil(Box<Core>, Box<Core>),
-    /// `~a`
-    Complement(Box<Core>),
-    /// `a*`
-    Star(Box<Core>),
-    /// `X a`
-    LtlNext(Box<Core>),
+///
+/// A core can be as deep as it is large, some ten thousand levels, so a function that calls itself on the children needs a stack to
+/// match. A child stands behind its parent: from the last node to the first, the children's results are there before they are
+/// needed. Nothing in this crate recurses over a core.
+///
+/// ```
+/// use netkat::{desugar, Core, Expr};
+///
+/// fn depth(core: &Core) -> usize {
+///     let mut depths = vec![0; core.len()];
+///     for node in core.nodes().rev() {
+///         let below = node.children().map(|child| depths[child.index()]).max();
+///         depths[node.index()] = 1 + below.unwrap_or(0);
+///     }
+///     depths[0]
+/// }
+/// let core = desugar(&Expr::bit_range_test(0, 100, vec![true; 100])).unwrap();
+/// assert_eq!(depth(&core), 100);
+/// ```
+#[derive(Clone, PartialEq, Eq, Hash)]
+pub struct Core {
+    slots: Vec<Slot>,
+}
+
+/// A node of a [`Core`] without its children.
+#[derive(Clone, Copy, Debug, PartialEq, Eq, Hash)]
+pub struct CoreRecord {
+    /// The kind, which says how many children there are.
+    pub kind: Kind,
+    /// The field of Assign and Test, else 0.
+    pub field: Field,
+    /// The value of Assign and Test, else false.
+    pub value: Value,
+}
+
+impl CoreRecord {
+    pub(crate) fn of(slot: &Slot) -> Self {
+        let field = if slot.kind.arity() == 0 { slot.number } else { 0 };
+        CoreRecord { kind: slot.kind, field, value: slot.value }
+    }
 }
 
 impl Core {
-    /// The core of the bytes. Refused by 1 to 5 and 8 as terms are, and by 2 for a kind above 15. There is no limit on size or
-    /// depth.
+    pub(crate) fn of_slots(slots: Vec<Slot>) -> Self {
+        Core { slots }
+    }
+
+    /// The core of the bytes. Refused by 1 to 5 and 8 as terms are, and by 2 for a kind above 15. There is no limit on depth; 6 is
+    /// the refusal of a core with more than 4,294,967,295 nodes.
     ///
     /// ```
-    /// use netkat::Core;
+    /// use netkat::{Core, View};
     ///
     /// let core = Core::from_bytes(&[1, 14, 0x25, 6, 3, 0, 0, 0, 1]).unwrap();
-    /// assert_eq!(core, Core::Star(Box::new(Core::Test(3, true))));
+    /// let View::Star(body) = core.root().view() else { panic!() };
+    /// assert_eq!(body.view(), View::Test(3, true));
     /// ```
     pub fn from_bytes(bytes: &[u8]) -> Result<Self, Refusal> {
-        tree::decode(bytes)
+        // Mostly, tests and assignments of seven bytes have an operator of two bytes each.
+        Self::of_bytes(bytes, bytes.len() / 4)
+    }
+
+    /// The core that the library wrote, whose steps drew so many nodes.
+    pub(crate) fn of_library(bytes: &[u8], drawn: u32) -> Self {
+        // A core has no more nodes than were drawn. An operator of two bytes with two Zeros of one is the shortest tree.
+        let nodes = (drawn as usize).min(bytes.len() * 2 / 3 + 1);
+        Self::of_bytes(bytes, nodes).expect("the library writes cores of good form")
+    }
+
+    /// The core of the bytes, which has about so many nodes.
+    fn of_bytes(bytes: &[u8], nodes: usize) -> Result<Self, Refusal> {
+        let mut slots = slots::decode(bytes, Vec::with_capacity(nodes))?;
+        slots.shrink_to_fit();
+        Ok(Core { slots })
     }
 
     /// The bytes of the core.
     ///
     /// ```
-    /// use netkat::Core;
+    /// use netkat::{Core, Expr};
     ///
-    /// assert_eq!(Core::Test(3, true).to_bytes(), [0x25, 6, 3, 0, 0, 0, 1]);
+    /// let core = Core::from_expr(&Expr::Test(3, true)).unwrap();
+    /// assert_eq!(core.to_bytes(), [0x25, 6, 3, 0, 0, 0, 1]);
     /// ```
     pub fn to_bytes(&self) -> Vec<u8> {
-        tree::encode(self).expect("a core has no limits, and its records always fit")
+        slots::encode(&self.slots)
     }
 
-    /// All nodes in prefix order, the order of the records.
+    /// The core that an expression is, if it has only kinds of a core. Refused by 2 at the first node of another kind, for which
+    /// there is [`desugar()`](crate::desugar()).
     ///
     /// ```
-    /// use netkat::{desugar, Core, Expr};
+    /// use netkat::{Core, Expr};
     ///
-    /// let core = desugar(&Expr::bit_range_test(0, 2, vec![true, false])).unwrap();
-    /// let tests = core.nodes().filter(|node| matches!(node, Core::Test(..)));
-    /// assert_eq!(tests.count(), 2);
+    /// let written = Expr::union(Expr::test(0, true), Expr::dup());
+    /// assert_eq!(Core::from_expr(&written).unwrap().to_expr(), written);
+    ///
+    /// let refusal = Core::from_expr(&Expr::star(Expr::var(1))).unwrap_err();
+    /// assert_eq!((refusal.number, refusal.place), (2, 1));
     /// ```
-    pub fn nodes(&self) -> impl Iterator<Item = &Core> {
-        tree::nodes(self)
+    pub fn from_expr(expr: &Expr) -> Result<Self, Refusal> {
+        slots::of_expr(expr).map(Self::of_slots)
     }
 
     /// The same tree as an expression, for code that takes what the original's `desugar` gives.
     ///
     /// ```
-    /// use netkat::{Core, Expr};
+    /// use netkat::{desugar, Expr};
     ///
-    /// assert_eq!(Core::Test(3, true).to_expr(), Expr::test(3, true));
+    /// let policy = Expr::test_negation(Expr::test(0, true));
+    /// assert_eq!(desugar(&policy).unwrap().to_expr(), Expr::test(0, false));
     /// ```
     pub fn to_expr(&self) -> Exp {
-        let nodes: Vec<&Core> = self.nodes().collect();
-        Box::new(tree::build::<Expr>(nodes.into_iter().map(Core::record)))
+        slots::to_expr(&self.slots, &mut Vec::new())
+    }
+
+    /// The root.
+    pub fn root(&self) -> Node<'_> {
+        Node::new(&self.slots, 0)
+    }
+
+    /// The node of an index in prefix order, if there is one.
+    pub fn node(&self, index: usize) -> Option<Node<'_>> {
+        (index < self.len()).then(|| Node::new(&self.slots, index))
+    }
+
+    /// All nodes in prefix order, the order of the records.
+    ///
+    /// ```
+    /// use netkat::{desugar, Expr, View};
+    ///
+    /// let core = desugar(&Expr::bit_range_test(0, 2, vec![true, false])).unwrap();
+    /// let tests = core.nodes().filter(|node| matches!(node.view(), View::Test(..)));
+    /// assert_eq!(tests.count(), 2);
+    /// ```
+    pub fn nodes(&self) -> impl ExactSizeIterator<Item = Node<'_>> + DoubleEndedIterator {
+        (0..self.len()).map(|index| Node::new(&self.slots, index))
+    }
+
+    /// Kind, field and value of all nodes in prefix order, as a solver would store them. This is the whole core: a kind says how many
+    /// children there are.
+    ///
+    /// ```
+    /// use netkat::{desugar, Expr, Kind};
+    ///
+    /// let core = desugar(&Expr::bit_range_test(0, 2, vec![true, false])).unwrap();
+    /// let records: Vec<_> = core.records().map(|r| (r.kind, r.field, r.value)).collect();
+    /// assert_eq!(records, [(Kind::Intersect, 0, false), (Kind::Test, 0, true), (Kind::Test, 1, false)]);
+    /// ```
+    pub fn records(&self) -> impl ExactSizeIterator<Item = CoreRecord> + DoubleEndedIterator + '_ {
+        self.slots.iter().map(CoreRecord::of)
+    }
+
+    /// The number of nodes, at least 1.
+    #[allow(clippy::len_without_is_empty)] // A core is never empty.
+    pub fn len(&self) -> usize {
+        self.slots.len()
     }
 }
 
-// The children, borrowed as the node is.
-macro_rules! children {
-    ($node:expr) => {
-        match $node {
-            Core::Union(a, b)
-            | Core::Intersect(a, b)
-            | Core::Xor(a, b)
-            | Core::Difference(a, b)
-            | Core::Sequence(a, b)
-            | Core::LtlUntil(a, b) => [Some(a), Some(b), None],
-            Core::Complement(a) | Core::Star(a) | Core::LtlNext(a) => [Some(a), None, None],
-            _ => [None, None, None],
-        }
-    };
-}
-
-impl Tree for Core {
-    const LIMITS: Limits = Limits::CORE;
-
-    fn children(&self) -> [Option<&Self>; 3] {
-        children!(self)
-    }
-
-    fn children_mut(&mut self) -> [Option<&mut Self>; 3] {
-        children!(self)
-    }
-
-    fn record(&self) -> Record {
-        match *self {
-            Core::Zero => Record::new(kind::ZERO),
-            Core::One => Record::new(kind::ONE),
-            Core::Top => Record::new(kind::TOP),
-            Core::Dup => Record::new(kind::DUP),
-            Core::End => Record::new(kind::END),
-            Core::Assign(start, value) => Record { start, number: value.into(), ..Record::new(kind::ASSIGN) },
-            Core::Test(start, value) => Record { start, number: value.into(), ..Record::new(kind::TEST) },
-            Core::Union(..) => Record::new(kind::UNION),
-            Core::Intersect(..) => Record::new(kind::INTERSECT),
-            Core::Xor(..) => Record::new(kind::XOR),
-            Core::Difference(..) => Record::new(kind::DIFFERENCE),
-            Core::Sequence(..) => Record::new(kind::SEQUENCE),
-            Core::LtlUntil(..) => Record::new(kind::LTL_UNTIL),
-            Core::Complement(_) => Record::new(kind::COMPLEMENT),
-            Core::Star(_) => Record::new(kind::STAR),
-            Core::LtlNext(_) => Record::new(kind::LTL_NEXT),
-        }
-    }
-
-    fn from_record(record: Record, mut child: impl FnMut() -> Box<Self>) -> Self {
-        match record.kind {
-            kind::ZERO => Core::Zero,
-            kind::ONE => Core::One,
-            kind::TOP => Core::Top,
-            kind::DUP => Core::Dup,
-            kind::END => Core::End,
-            kind::ASSIGN => Core::Assign(record.start, record.number == 1),
-            kind::TEST => Core::Test(record.start, record.number == 1),
-            kind::UNION => Core::Union(child(), child()),
-            kind::INTERSECT => Core::Intersect(child(), child()),
-            kind::XOR => Core::Xor(child(), child()),
-            kind::DIFFERENCE => Core::Difference(child(), child()),
-            kind::SEQUENCE => Core::Sequence(child(), child()),
-            kind::LTL_UNTIL => Core::LtlUntil(child(), child()),
-            kind::COMPLEMENT => Core::Complement(child()),
-            kind::STAR => Core::Star(child()),
-            kind::LTL_NEXT => Core::LtlNext(child()),
-            other => unreachable!("kind {other} in a core"),
-        }
+/// `Zero`
+impl Default for Core {
+    fn default() -> Self {
+        Core { slots: vec![Slot::new(Kind::Zero)] }
     }
 }
 
-tree::without_recursion!(Core);
+/// As [`Core::from_expr`].
+impl TryFrom<&Expr> for Core {
+    type Error = Refusal;
+
+    fn try_from(expr: &Expr) -> Result<Self, Refusal> {
+        Self::from_expr(expr)
+    }
+}
+
+/// As [`Core::to_expr`].
+impl From<&Core> for Exp {
+    fn from(core: &Core) -> Exp {
+        core.to_expr()
+    }
+}
+
+/// Writes the tree as `derive(Debug)` would for an enum with the cases of [`View`](crate::View).
+impl fmt::Debug for Core {
+    fn fmt(&self, f: &mut fmt::Formatter<'_>) -> fmt::Result {
+        debug::tree(self.root(), f)
+    }
+}

@@ -1,25 +1,76 @@
+use std::cell::RefCell;
 use std::fmt;
 
-use crate::{ffi, Core, Expr, Refusal};
+use crate::ffi::Memory;
+use crate::slots::{self, Slot};
+use crate::{tree, Core, Exp, Expr, Refusal};
+
+thread_local! {
+    /// What the free functions work with. To lend a small allowance first and the full one on refusal 24 was tried: it saves no
+    /// resident memory on small policies, and on others costs a second pass of form, a third of the time at 3,500 nodes.
+    static KEPT: RefCell<Option<Desugarer>> = const { RefCell::new(None) };
+}
+
+/// Calls with the thread's desugarer of the greatest allowance, or with a new one while the thread ends.
+pub(crate) fn with_kept<T>(mut call: impl FnMut(&mut Desugarer) -> T) -> T {
+    let kept = KEPT.try_with(|kept| Some(call(kept.try_borrow_mut().ok()?.get_or_insert_with(Desugarer::new))));
+    kept.ok().flatten().unwrap_or_else(|| call(&mut Desugarer::new()))
+}
+
+/// Frees the memory that [`desugar()`], [`desugar_to_expr`] and [`bytes::desugar`](crate::bytes::desugar) keep for this thread. The
+/// next call allocates it anew; a thread that ends frees it by itself.
+///
+/// It is lent to the library without being cleared, so that pages which no policy needed take no memory: on Linux 4 KiB are
+/// resident after a policy of some nodes, 75 KiB after one of 3,500, 0.8 MB after one of 43,000.
+///
+/// ```
+/// use netkat::{desugar, release_memory, Expr};
+///
+/// assert!(desugar(&Expr::One).is_ok());
+/// release_memory();
+/// assert!(desugar(&Expr::One).is_ok());
+/// ```
+pub fn release_memory() {
+    // Where the thread's memory is gone, there is nothing to free.
+    let _ = KEPT.try_with(|kept| kept.take());
+}
 
 /// The core of a term, at the greatest allowance.
 ///
-/// Takes the place of the original's `desugar`. For many terms, or another allowance, see [`Desugarer`].
+/// The memory it works with is kept for the thread's next call, 2.6 MB of which only what was once needed is resident; see
+/// [`release_memory`]. For another allowance see [`Desugarer`]; for a boxed tree, as the original's `desugar` gives, see
+/// [`desugar_to_expr`].
 ///
 /// ```
-/// use netkat::{desugar, Core, Expr};
+/// use netkat::{desugar, Expr, View};
 ///
 /// let policy = Expr::test_negation(Expr::test(0, true));
-/// assert_eq!(desugar(&policy), Ok(Core::Test(0, false)));
+/// let core = desugar(&policy).unwrap();
+/// assert_eq!(core.root().view(), View::Test(0, false));
 /// ```
 pub fn desugar(term: &Expr) -> Result<Core, Refusal> {
-    Desugarer::new().desugar(term).map(|desugared| desugared.core)
+    with_kept(|desugarer| desugarer.desugar(term).map(|desugared| desugared.core))
+}
+
+/// The core of a term as an expression: what the original's `desugar` gives, and faster than `desugar(term)?.to_expr()`, as no
+/// [`Core`] is allocated on the way.
+///
+/// ```
+/// use netkat::{desugar, desugar_to_expr, Expr};
+///
+/// let policy = Expr::bit_range_test(0, 2, vec![true, false]);
+/// let core = desugar_to_expr(&policy).unwrap();
+/// assert_eq!(core, Expr::intersect(Expr::test(0, true), Expr::test(1, false)));
+/// assert_eq!(core, desugar(&policy).unwrap().to_expr());
+/// ```
+pub fn desugar_to_expr(term: &Expr) -> Result<Exp, Refusal> {
+    with_kept(|desugarer| desugarer.desugar_to_expr(term))
 }
 
 /// Desugars terms one after another in the same memory.
 ///
 /// The allowance limits how many core nodes the steps of a desugaring may make, 65,535 if nothing else is said. With it goes the
-/// memory, which is allocated once: 39 bytes for each node of the allowance and 32 KiB, 2.6 MB at the greatest.
+/// memory, which is allocated once and not cleared: 39 bytes for each node of the allowance and 32 KiB, 2.6 MB at the greatest.
 ///
 /// ```
 /// use netkat::{Desugarer, Expr};
@@ -29,7 +80,7 @@ pub fn desugar(term: &Expr) -> Result<Core, Refusal> {
 ///
 /// let desugared = desugarer.desugar(&policy).unwrap();
 /// assert_eq!(desugared.drawn, 3);
-/// assert_eq!(desugared.core.nodes().count(), 3);
+/// assert_eq!(desugared.core.len(), 3);
 ///
 /// // An alias of a billion fields is refused by 24, at once.
 /// let wide = Expr::let_bit_range(1, 0, 1_000_000_000, Expr::var_test(1, vec![true]));
@@ -37,8 +88,13 @@ pub fn desugar(term: &Expr) -> Result<Core, Refusal> {
 /// ```
 pub struct Desugarer {
     allowance: u32,
-    work: Vec<u32>,
-    out: Vec<u8>,
+    memory: Memory,
+    /// The bytes of the term.
+    term: Vec<u8>,
+    /// The core on the way to an expression.
+    slots: Vec<Slot>,
+    /// Parts of that expression.
+    complete: Vec<Exp>,
 }
 
 /// A core, and what it took to make it.
@@ -71,12 +127,7 @@ impl Desugarer {
     /// A desugarer with this allowance. If it is not 1 to 65,535, each call is refused by 9.
     pub fn with_allowance(allowance: u32) -> Self {
         let nodes = allowance.min(Self::MAX_ALLOWANCE) as usize;
-        Desugarer {
-            allowance,
-            work: vec![0; 8 * nodes + 8_192],
-            // A core has no more nodes than were drawn. The longest record, a test or an assignment, has 7 bytes.
-            out: vec![0; 7 * nodes],
-        }
+        Desugarer { allowance, memory: Memory::for_nodes(nodes), term: Vec::new(), slots: Vec::new(), complete: Vec::new() }
     }
 
     /// The allowance.
@@ -86,9 +137,19 @@ impl Desugarer {
 
     /// The core of a term. Refused by 5 to 7 if the term is beyond the limits, by 9, by a rule (11 to 23), or by 24.
     pub fn desugar(&mut self, term: &Expr) -> Result<Desugared, Refusal> {
-        let DesugaredBytes { core, drawn } = self.desugar_bytes(&term.to_bytes()?)?;
-        let core = Core::from_bytes(core).expect("the library writes cores of good form");
-        Ok(Desugared { core, drawn })
+        self.term.clear();
+        tree::encode(term, &mut self.term)?;
+        let (core, drawn) = self.memory.desugar(&self.term, self.allowance)?;
+        Ok(Desugared { core: Core::of_library(core, drawn), drawn })
+    }
+
+    /// The core of a term as an expression, as [`desugar_to_expr`] gives it. Refused as [`Desugarer::desugar`] is.
+    pub fn desugar_to_expr(&mut self, term: &Expr) -> Result<Exp, Refusal> {
+        self.term.clear();
+        tree::encode(term, &mut self.term)?;
+        let (core, _) = self.memory.desugar(&self.term, self.allowance)?;
+        self.slots = slots::decode(core, std::mem::take(&mut self.slots)).expect("the library writes cores of good form");
+        Ok(slots::to_expr(&self.slots, &mut self.complete))
     }
 
     /// The bytes of the core of a term in bytes. Refused by 9, by form (1 to 8), by a rule (11 to 23), or by 24.
@@ -102,8 +163,8 @@ impl Desugarer {
     /// assert_eq!(desugared.drawn, 3);
     /// ```
     pub fn desugar_bytes(&mut self, term: &[u8]) -> Result<DesugaredBytes<'_>, Refusal> {
-        let (length, drawn) = ffi::desugar(term, self.allowance, &mut self.work, &mut self.out)?;
-        Ok(DesugaredBytes { core: &self.out[..length as usize], drawn })
+        let (core, drawn) = self.memory.desugar(term, self.allowance)?;
+        Ok(DesugaredBytes { core, drawn })
     }
 }
 

@@ -1,19 +1,21 @@
 use crate::record::{kind, Record};
-use crate::tree::{self, Limits, Tree};
+use crate::tree;
 use crate::{bytes, desugar, Core, Field, Refusal, Value};
 
 /// What the value of a range of fields is matched against. Bits are least significant first.
 ///
 /// ```
-/// use netkat::{bits, Core, Expr, Pattern};
+/// use netkat::{bits, Expr, Pattern, View};
 ///
 /// // x[0..8] ~ 160/1 looks at the highest bit alone.
 /// let upper_half = Pattern::Cidr { address: bits(160, 8), prefix_len: 1 };
-/// assert_eq!(Expr::bit_range_match(0, 8, upper_half).desugar(), Ok(Core::Test(7, true)));
+/// let core = Expr::bit_range_match(0, 8, upper_half).desugar().unwrap();
+/// assert_eq!(core.root().view(), View::Test(7, true));
 ///
 /// // A true bit of the mask says that any bit will do.
 /// let third_bit = Pattern::Wildcard { address: bits(0, 8), mask: bits(0b1111_1011, 8) };
-/// assert_eq!(Expr::bit_range_match(0, 8, third_bit).desugar(), Ok(Core::Test(2, false)));
+/// let core = Expr::bit_range_match(0, 8, third_bit).desugar().unwrap();
+/// assert_eq!(core.root().view(), View::Test(2, false));
 /// ```
 #[derive(Clone, Debug, PartialEq, Eq)]
 pub enum Pattern {
@@ -50,9 +52,21 @@ pub type Exp = Box<Expr>;
 /// Kinds and constructors are the original's, but names are 16-bit numbers ([`Names`](crate::Names) gives them for words). Ranges
 /// are half open, literals least significant bit first.
 ///
-/// A tree can be built at any size and depth; the operations refuse one of more than 4,096 nodes or 256 levels. As with [`Core`],
-/// nothing in this crate recurses over it, and children cannot be moved out by a pattern. The library recurses over its bytes,
-/// within those levels.
+/// A tree can be built at any size and depth; the operations refuse one of more than 4,096 nodes or 256 levels. Nothing in this
+/// crate recurses over it, its drop included. The library recurses over its bytes, within those levels.
+///
+/// Because of the drop, children cannot be moved out by a pattern. Match on a reference, or take a child and leave `Zero` in its
+/// place:
+///
+/// ```
+/// use netkat::Expr;
+///
+/// let mut policy = Expr::Star(Expr::test(0, true));
+/// if let Expr::Star(body) = &mut policy {
+///     let body = std::mem::take(&mut **body);
+///     assert_eq!(body, Expr::Test(0, true));
+/// }
+/// ```
 #[derive(Default)]
 pub enum Expr {
     /// `0`
@@ -298,11 +312,11 @@ impl Expr {
     /// assert_eq!(test, Expr::bit_range_test(0, 2, vec![true, false]));
     /// ```
     pub fn from_bytes(bytes: &[u8]) -> Result<Exp, Refusal> {
-        tree::decode(bytes).map(Box::new)
+        tree::decode(bytes)
     }
 
-    /// The bytes of the term. Refused by 5 for a literal of more than 128 bits or a CIDR prefix above 255, by 6 for more than 4,096
-    /// nodes, by 7 for more than 256 levels.
+    /// The bytes of the term. Refused by 5 for a literal or a CIDR prefix, by 6 for a number of nodes and by 7 for a number of levels that
+    /// is beyond the [`limits`](crate::limits).
     ///
     /// ```
     /// use netkat::Expr;
@@ -310,7 +324,9 @@ impl Expr {
     /// assert_eq!(Expr::star(Expr::one()).to_bytes().unwrap(), [1, 14, 1, 1]);
     /// ```
     pub fn to_bytes(&self) -> Result<Vec<u8>, Refusal> {
-        tree::encode(self)
+        let mut bytes = Vec::new();
+        tree::encode(self, &mut bytes)?;
+        Ok(bytes)
     }
 
     /// All nodes in prefix order, the order of the records: where a refusal's place is a record of the term, its node is
@@ -342,10 +358,10 @@ impl Expr {
     /// The core, as [`desugar()`] gives it.
     ///
     /// ```
-    /// use netkat::{Core, Expr};
+    /// use netkat::Expr;
     ///
     /// let policy = Expr::let_in(1, Expr::dup(), Expr::star(Expr::var(1)));
-    /// assert_eq!(policy.desugar(), Ok(Core::Star(Box::new(Core::Dup))));
+    /// assert_eq!(policy.desugar().unwrap().to_expr(), Expr::star(Expr::dup()));
     /// ```
     pub fn desugar(&self) -> Result<Core, Refusal> {
         desugar(self)
@@ -419,18 +435,42 @@ macro_rules! children {
     };
 }
 
-impl Tree for Expr {
-    const LIMITS: Limits = Limits::TERM;
-
-    fn children(&self) -> [Option<&Self>; 3] {
+impl Expr {
+    /// The children, left to right.
+    #[inline]
+    pub(crate) fn children(&self) -> [Option<&Expr>; 3] {
         children!(self)
     }
 
-    fn children_mut(&mut self) -> [Option<&mut Self>; 3] {
+    #[inline]
+    pub(crate) fn children_mut(&mut self) -> [Option<&mut Exp>; 3] {
         children!(self)
     }
 
-    fn record(&self) -> Record {
+    /// Whether the node has no children; a test of one bit, where [`Expr::children`] is a jump.
+    #[inline]
+    pub(crate) fn is_leaf(&self) -> bool {
+        !matches!(
+            self,
+            Expr::Union(..)
+                | Expr::Intersect(..)
+                | Expr::Xor(..)
+                | Expr::Difference(..)
+                | Expr::Sequence(..)
+                | Expr::LtlUntil(..)
+                | Expr::Let(..)
+                | Expr::Complement(_)
+                | Expr::Star(_)
+                | Expr::LtlNext(_)
+                | Expr::TestNegation(_)
+                | Expr::LetBitRange(..)
+                | Expr::IfThenElse(..)
+        )
+    }
+
+    /// The node without its children.
+    #[inline]
+    pub(crate) fn record(&self) -> Record<&[bool]> {
         match self {
             Expr::Zero => Record::new(kind::ZERO),
             Expr::One => Record::new(kind::ONE),
@@ -453,13 +493,13 @@ impl Tree for Expr {
             &Expr::Let(name, ..) => Record { name, ..Record::new(kind::LET) },
             &Expr::LetBitRange(name, start, end, _) => Record { name, start, end, ..Record::new(kind::LET_BIT_RANGE) },
             &Expr::Var(name) => Record { name, ..Record::new(kind::VAR) },
-            Expr::VarAssign(name, bits) => Record { name: *name, a: bits.clone(), ..Record::new(kind::VAR_ASSIGN) },
-            Expr::VarTest(name, bits) => Record { name: *name, a: bits.clone(), ..Record::new(kind::VAR_TEST) },
+            Expr::VarAssign(name, bits) => Record { name: *name, a: bits, ..Record::new(kind::VAR_ASSIGN) },
+            Expr::VarTest(name, bits) => Record { name: *name, a: bits, ..Record::new(kind::VAR_TEST) },
             Expr::BitRangeAssign(start, end, bits) => {
-                Record { start: *start, end: *end, a: bits.clone(), ..Record::new(kind::BIT_RANGE_ASSIGN) }
+                Record { start: *start, end: *end, a: bits, ..Record::new(kind::BIT_RANGE_ASSIGN) }
             }
             Expr::BitRangeTest(start, end, bits) => {
-                Record { start: *start, end: *end, a: bits.clone(), ..Record::new(kind::BIT_RANGE_TEST) }
+                Record { start: *start, end: *end, a: bits, ..Record::new(kind::BIT_RANGE_TEST) }
             }
             Expr::BitRangeMatch(start, end, pattern) => {
                 Record { start: *start, end: *end, ..Record::new(kind::BIT_RANGE_MATCH) }.with_pattern(pattern)
@@ -468,7 +508,8 @@ impl Tree for Expr {
         }
     }
 
-    fn from_record(record: Record, mut child: impl FnMut() -> Box<Self>) -> Self {
+    /// The node of a record. `child` gives its children, left to right.
+    pub(crate) fn from_record(record: Record<Vec<bool>>, mut child: impl FnMut() -> Exp) -> Self {
         match record.kind {
             kind::ZERO => Expr::Zero,
             kind::ONE => Expr::One,
@@ -501,5 +542,3 @@ impl Tree for Expr {
         }
     }
 }
-
-tree::without_recursion!(Expr);

@@ -57,21 +57,74 @@ pub(crate) fn check(term: &[u8]) -> Values {
     unsafe { netkat_check(term.as_ptr(), term.len()) }.values()
 }
 
-/// The core in the front of `out`. Values: its length in bytes and the drawn total.
-pub(crate) fn desugar(term: &[u8], allowance: u32, work: &mut [u32], out: &mut [u8]) -> Values {
-    // SAFETY: each pointer and its length are those of a slice; `work` and `out` are borrowed mutably, so nothing overlaps them.
-    unsafe { netkat_desugar(term.as_ptr(), term.len(), allowance, work.as_mut_ptr(), work.len(), out.as_mut_ptr(), out.len()) }
-        .values()
+/// What the library is lent to make a core: work memory and an answer buffer.
+///
+/// Neither is cleared, and the vectors' lengths are kept at 0 but for the answer: pages that no call has touched take no memory.
+pub(crate) struct Memory {
+    work: Vec<u32>,
+    out: Vec<u8>,
 }
 
-/// The result in the front of `out`. First value: its length in bytes.
-pub(crate) fn substitute(term: &[u8], name: u16, replacement: &[u8], out: &mut [u8]) -> Values {
-    // SAFETY: each pointer and its length are those of a slice; `out` is borrowed mutably, so nothing overlaps it. The two slices
-    // that are only read may overlap.
-    unsafe {
-        netkat_substitute(term.as_ptr(), term.len(), name, replacement.as_ptr(), replacement.len(), out.as_mut_ptr(), out.len())
+impl Memory {
+    /// Enough for an allowance of so many nodes.
+    pub fn for_nodes(nodes: usize) -> Self {
+        Memory {
+            work: Vec::with_capacity(8 * nodes + 8_192),
+            // A core has no more nodes than were drawn. The longest record, a test or an assignment, has 7 bytes.
+            out: Vec::with_capacity(7 * nodes),
+        }
     }
-    .values()
+
+    /// The bytes of the term's core, and the drawn total.
+    pub fn desugar(&mut self, term: &[u8], allowance: u32) -> Result<(&[u8], u32), Refusal> {
+        self.out.clear();
+        let (work, out) = (self.work.spare_capacity_mut(), self.out.spare_capacity_mut());
+        let (work_len, out_len) = (work.len(), out.len());
+        // SAFETY: each pointer and its length are those of a slice; `work` and `out` are borrowed mutably, so nothing overlaps them.
+        // They are not initialised: the library writes each number of `work` and each byte of `out` before it reads it, or else its
+        // answer would depend on them.
+        let answer = unsafe {
+            netkat_desugar(
+                term.as_ptr(),
+                term.len(),
+                allowance,
+                work.as_mut_ptr().cast(),
+                work_len,
+                out.as_mut_ptr().cast(),
+                out_len,
+            )
+        };
+        let (length, drawn) = answer.values()?;
+        assert!(length as usize <= out_len, "the answer lies in its buffer");
+        // SAFETY: the capacity is not exceeded, and on success the library has written the core's bytes, as many as `length`.
+        unsafe { self.out.set_len(length as usize) };
+        Ok((&self.out, drawn))
+    }
+}
+
+/// Writes the result to `out`, which has room for it or is refused by 26.
+pub(crate) fn substitute(term: &[u8], name: u16, replacement: &[u8], out: &mut Vec<u8>) -> Result<(), Refusal> {
+    out.clear();
+    let room = out.spare_capacity_mut();
+    let room_len = room.len();
+    // SAFETY: each pointer and its length are those of a slice; `room` is borrowed mutably, so nothing overlaps it. It is not
+    // initialised, and the library does not read it. The two slices that are only read may overlap.
+    let answer = unsafe {
+        netkat_substitute(
+            term.as_ptr(),
+            term.len(),
+            name,
+            replacement.as_ptr(),
+            replacement.len(),
+            room.as_mut_ptr().cast(),
+            room_len,
+        )
+    };
+    let (length, _) = answer.values()?;
+    assert!(length as usize <= room_len, "the answer lies in its buffer");
+    // SAFETY: the capacity is not exceeded, and on success the library has written the result's bytes, as many as `length`.
+    unsafe { out.set_len(length as usize) };
+    Ok(())
 }
 
 /// First value: 1 if the term is in the test fragment.

@@ -1,45 +1,64 @@
 //! From a written NetKAT policy to its one-bit core.
 //!
 //! Rust binding of `libnetkat.a`, whose functions are proved to answer as their requirement says, for every input. This crate
-//! turns trees into the library's bytes and its bytes into trees; it is tested, not proved.
+//! turns trees into the library's bytes and its bytes into cores; it is tested, not proved.
 //!
 //! ```
-//! use netkat::{bits, desugar, Expr, Names, Pattern};
+//! use netkat::{desugar, Expr, Names, Pattern};
 //!
-//! // let dst = x[0..8] in if dst ~ 160/3 then x8 := 1 else 0
 //! let mut names = Names::new();
 //! let dst = names.intern("dst");
-//! let guests = Pattern::Cidr { address: bits(160, 8), prefix_len: 3 };
-//! let policy = Expr::let_bit_range(
-//!     dst,
-//!     0,
-//!     8,
-//!     Expr::if_then_else(Expr::var_match(dst, guests), Expr::assign(8, true), Expr::zero()),
+//! let guests = Expr::var_match(dst, "10.1.0.0/16".parse::<Pattern>()?);
+//! let allow = Expr::if_then_else(guests, Expr::assign(32, true), Expr::zero());
+//! let policy = Expr::let_bit_range(dst, 0, 32, allow);
+//! assert_eq!(
+//!     policy.display(&names).to_string(),
+//!     "let dst = &x[0..32] in if dst ~ 10.1.0.0/16 then x32 := 1 else 0"
 //! );
 //!
-//! let core = desugar(&policy).expect("the policy keeps every rule");
-//! assert_eq!(core.nodes().count(), 15);
+//! match desugar(&policy) {
+//!     Ok(core) => assert_eq!(core.len(), 67),
+//!     Err(refusal) => println!("{}", refusal.explain(&policy, &names)),
+//! }
+//! # Ok::<(), netkat::ParsePatternError>(())
 //! ```
 //!
 //! | for | see |
 //! |---|---|
-//! | building terms | [`Expr`], [`Pattern`], [`Names`], [`bits`] |
+//! | building terms | [`Expr`], [`Expr::union_all`], [`Pattern`], [`Names`], [`bits`] |
+//! | addresses, prefixes and wildcards | [`Pattern::ipv4_prefix`], [`ParsePatternError`] |
+//! | terms and cores as text | [`Expr::display`] |
 //! | judging a term without making its core | [`Expr::check`] |
-//! | making the core of one term, or of many | [`desugar()`], [`Desugarer`] |
-//! | what the core is | [`Core`] |
-//! | why there is no answer | [`Refusal`] |
+//! | making the core of a term | [`desugar()`]; with an allowance, [`Desugarer`]; as a boxed tree, [`desugar_to_expr`] |
+//! | what the core is | [`Core`], [`Node`], [`View`] |
+//! | why there is no answer | [`Refusal`], [`Refusal::explain`] |
+//! | how large a policy can be, and what to do with more | [`limits`] |
 //! | terms that are bytes already | [`bytes`] |
+//!
+//! The origin of the library, and of the names here, is KATch2 (<https://github.com/julesjacobs/KATch2>, MIT), called "the original" on
+//! these pages.
 
 #![deny(unsafe_code, missing_docs)]
 
+mod addresses;
 pub mod bytes;
+mod combine;
 mod cores;
+mod debug;
 mod desugarer;
+mod display;
+mod explain;
 mod expr;
 mod ffi;
+mod kinds;
+pub mod limits;
+mod literal;
 mod names;
+mod node;
+mod outline;
 mod record;
 mod refusal;
+mod slots;
 mod tree;
 
 /// The examples of the README, as tests.
@@ -49,10 +68,14 @@ struct Readme;
 
 use std::ops::Range;
 
-pub use cores::Core;
-pub use desugarer::{desugar, Desugared, DesugaredBytes, Desugarer};
+pub use addresses::{bits_of_ipv4, bits_of_ipv6, ParsePatternError};
+pub use cores::{Core, CoreRecord};
+pub use desugarer::{desugar, desugar_to_expr, release_memory, Desugared, DesugaredBytes, Desugarer};
+pub use display::ExprDisplay;
 pub use expr::{Exp, Expr, Pattern};
+pub use kinds::Kind;
 pub use names::Names;
+pub use node::{Node, View};
 pub use refusal::{FormFault, Refusal, RefusalKind};
 
 /// The number of a one-bit field.

@@ -1,6 +1,7 @@
 //! One record of the byte form, without its children: the requirement's "Term bytes".
 
-use crate::Pattern;
+use crate::limits::{MAX_CIDR_PREFIX, MAX_LITERAL_BITS};
+use crate::{Pattern, Refusal};
 
 /// The kind numbers. 0 to 15 are the core.
 pub(crate) mod kind {
@@ -36,8 +37,6 @@ pub(crate) mod kind {
     pub const LAST: u8 = VAR_MATCH;
 }
 
-const MAX_LITERAL: usize = 128;
-
 /// The bits of the map byte, in the order of the fields.
 const KIND: u8 = 1 << 0;
 const NAME: u8 = 1 << 1;
@@ -71,9 +70,9 @@ fn map_of_pattern(pattern: u8) -> u8 {
     }
 }
 
-/// A record's fields; one that is absent in the bytes is zero or empty.
-#[derive(Debug, Default, PartialEq, Eq)]
-pub(crate) struct Record {
+/// A record's fields; one that is absent in the bytes is zero or empty. Literals are borrowed or owned.
+#[derive(Clone, Copy, Debug, Default, PartialEq, Eq)]
+pub(crate) struct Record<L> {
     pub kind: u8,
     pub name: u16,
     /// The start of a range, or the field of Assign and Test.
@@ -82,50 +81,36 @@ pub(crate) struct Record {
     pub pattern: u8,
     /// The value of Assign and Test, or a CIDR prefix.
     pub number: usize,
-    pub a: Vec<bool>,
-    pub b: Vec<bool>,
+    pub a: L,
+    pub b: L,
 }
 
-impl Record {
+impl<'a> Record<&'a [bool]> {
     pub fn new(kind: u8) -> Self {
         Record { kind, ..Record::default() }
     }
 
-    pub fn with_pattern(self, pattern: &Pattern) -> Self {
-        match pattern.clone() {
+    #[inline(always)]
+    pub fn with_pattern(self, pattern: &'a Pattern) -> Self {
+        match pattern {
             Pattern::Exact(a) => Record { pattern: 0, a, ..self },
-            Pattern::Cidr { address, prefix_len } => Record { pattern: 1, number: prefix_len, a: address, ..self },
+            Pattern::Cidr { address, prefix_len } => Record { pattern: 1, number: *prefix_len, a: address, ..self },
             Pattern::Wildcard { address, mask } => Record { pattern: 2, a: address, b: mask, ..self },
             Pattern::IpRange { start, end } => Record { pattern: 3, a: start, b: end, ..self },
         }
     }
 
-    /// The pattern of a record that has one.
-    pub fn into_pattern(self) -> Pattern {
-        match self.pattern {
-            0 => Pattern::Exact(self.a),
-            1 => Pattern::Cidr { address: self.a, prefix_len: self.number },
-            2 => Pattern::Wildcard { address: self.a, mask: self.b },
-            _ => Pattern::IpRange { start: self.a, end: self.b },
+    pub fn to_owned(self) -> Record<Vec<bool>> {
+        let Record { kind, name, start, end, pattern, number, a, b } = self;
+        Record { kind, name, start, end, pattern, number, a: a.to_vec(), b: b.to_vec() }
+    }
+
+    /// Appends the bytes of the record. Refused by 5 if a field is too large for its place.
+    #[inline(always)]
+    pub fn write(&self, out: &mut Vec<u8>) -> Result<(), u32> {
+        if self.number > MAX_CIDR_PREFIX || self.a.len() > MAX_LITERAL_BITS || self.b.len() > MAX_LITERAL_BITS {
+            return Err(5);
         }
-    }
-
-    pub fn children(&self) -> u8 {
-        match self.kind {
-            kind::UNION..=kind::LTL_UNTIL | kind::LET => 2,
-            kind::COMPLEMENT..=kind::TEST_NEGATION | kind::LET_BIT_RANGE => 1,
-            kind::IF_THEN_ELSE => 3,
-            _ => 0,
-        }
-    }
-
-    /// Whether every field is small enough for its place in the bytes.
-    pub fn fits(&self) -> bool {
-        self.number <= usize::from(u8::MAX) && self.a.len() <= MAX_LITERAL && self.b.len() <= MAX_LITERAL
-    }
-
-    /// Appends the bytes of a record that fits.
-    pub fn write(&self, out: &mut Vec<u8>) {
         let map = self.map();
         out.push(map);
         if map & KIND != 0 {
@@ -147,14 +132,16 @@ impl Record {
             out.push(self.number as u8);
         }
         if map & A != 0 {
-            write_literal(&self.a, out);
+            write_literal(self.a, out);
         }
         if map & B != 0 {
-            write_literal(&self.b, out);
+            write_literal(self.b, out);
         }
+        Ok(())
     }
 
     /// The map byte: a bit for each field that is not zero or empty.
+    #[inline(always)]
     fn map(&self) -> u8 {
         let bit = |bit, present| if present { bit } else { 0 };
         bit(KIND, self.kind != 0)
@@ -166,11 +153,32 @@ impl Record {
             | bit(A, !self.a.is_empty())
             | bit(B, !self.b.is_empty())
     }
+}
+
+impl Record<Vec<bool>> {
+    /// The pattern of a record that has one.
+    pub fn into_pattern(self) -> Pattern {
+        match self.pattern {
+            0 => Pattern::Exact(self.a),
+            1 => Pattern::Cidr { address: self.a, prefix_len: self.number },
+            2 => Pattern::Wildcard { address: self.a, mask: self.b },
+            _ => Pattern::IpRange { start: self.a, end: self.b },
+        }
+    }
+
+    pub fn children(&self) -> u8 {
+        match self.kind {
+            kind::UNION..=kind::LTL_UNTIL | kind::LET => 2,
+            kind::COMPLEMENT..=kind::TEST_NEGATION | kind::LET_BIT_RANGE => 1,
+            kind::IF_THEN_ELSE => 3,
+            _ => 0,
+        }
+    }
 
     /// Reads one record whose kind is at most `last_kind`. A refusal is its number.
     pub fn read(bytes: &mut Input, last_kind: u8) -> Result<Self, u32> {
         let map = bytes.byte()?;
-        let mut record = Record::default();
+        let mut record = Record::<Vec<bool>>::default();
         if map & KIND != 0 {
             record.kind = nonzero(bytes.byte()?)?;
             if record.kind > last_kind {
@@ -237,7 +245,7 @@ impl<'a> Input<'a> {
 
     fn literal(&mut self) -> Result<Vec<bool>, u32> {
         let length = usize::from(nonzero(self.byte()?)?);
-        if length > MAX_LITERAL {
+        if length > MAX_LITERAL_BITS {
             return Err(5);
         }
         let packed = self.take(length.div_ceil(8))?;
@@ -258,8 +266,63 @@ fn nonzero<T: Default + PartialEq>(value: T) -> Result<T, u32> {
     }
 }
 
-/// Appends a literal's length byte and its bits.
+/// Appends the length byte and the bits of a literal that is within the limit.
 fn write_literal(bits: &[bool], out: &mut Vec<u8>) {
-    out.push(bits.len() as u8);
-    out.extend(bits.chunks(8).map(|chunk| chunk.iter().rev().fold(0, |byte, bit| byte << 1 | u8::from(*bit))));
+    let mut packed = [0; 1 + MAX_LITERAL_BITS / 8];
+    packed[0] = bits.len() as u8;
+    let chunks = bits.chunks_exact(8);
+    let rest = chunks.remainder();
+    for (byte, chunk) in packed[1..].iter_mut().zip(chunks) {
+        *byte = pack(chunk.try_into().expect("a chunk of eight"));
+    }
+    if !rest.is_empty() {
+        packed[1 + bits.len() / 8] = rest.iter().rev().fold(0, |byte, bit| byte << 1 | u8::from(*bit));
+    }
+    // A copy of a fixed length takes no call.
+    let end = out.len() + 1 + bits.len().div_ceil(8);
+    out.extend_from_slice(&packed);
+    out.truncate(end);
 }
+
+/// Eight bits as a byte, the first one lowest.
+#[inline]
+fn pack(bits: &[bool; 8]) -> u8 {
+    // Byte i of the word is 0 or 1, and is wanted at bit 56 + i: the factor has bit 56 - 7 * i. No two products meet in a bit.
+    let word = u64::from_le_bytes(bits.map(u8::from));
+    (word.wrapping_mul(0x0102_0408_1020_4080) >> 56) as u8
+}
+
+pub(crate) fn refusal(number: u32, place: usize) -> Refusal {
+    Refusal { number, place: u32::try_from(place).unwrap_or(u32::MAX) }
+}
+
+/// The names of the kinds, in the order of their numbers.
+pub(crate) const NAMES: [&str; kind::LAST as usize + 1] = [
+    "Zero",
+    "One",
+    "Top",
+    "Dup",
+    "End",
+    "Assign",
+    "Test",
+    "Union",
+    "Intersect",
+    "Xor",
+    "Difference",
+    "Sequence",
+    "LtlUntil",
+    "Complement",
+    "Star",
+    "LtlNext",
+    "TestNegation",
+    "IfThenElse",
+    "Let",
+    "LetBitRange",
+    "Var",
+    "VarAssign",
+    "VarTest",
+    "BitRangeAssign",
+    "BitRangeTest",
+    "BitRangeMatch",
+    "VarMatch",
+];

@@ -1,5 +1,9 @@
+use std::borrow::Cow;
 use std::error::Error;
 use std::fmt;
+
+use crate::limits::{MAX_CIDR_PREFIX, MAX_LEVELS, MAX_LITERAL_BITS, MAX_RANGE_PATTERN_FIELDS, MAX_RECORDS};
+use crate::literal::grouped;
 
 /// Why there is no answer: a number of the requirement, and a place.
 ///
@@ -18,6 +22,9 @@ use std::fmt;
 /// assert_eq!(policy.nodes().nth(refusal.place as usize), Some(&Expr::Var(7)));
 /// assert_eq!(refusal.to_string(), "no let around this use defines the variable (record 2, refusal 12)");
 /// ```
+///
+/// [`Refusal::explain`] says it with the names, the widths and the part of the policy. A refusal is these two numbers and will stay so: a
+/// test may write one out.
 #[derive(Clone, Copy, Debug, PartialEq, Eq, Hash)]
 pub struct Refusal {
     /// The refusal's number; [`Refusal::kind`] says what it is about.
@@ -26,8 +33,9 @@ pub struct Refusal {
     pub place: u32,
 }
 
-/// What a [`Refusal`] is about: one case for each number.
+/// What a [`Refusal`] is about: one case for each number. There will be more.
 #[derive(Clone, Copy, Debug, PartialEq, Eq, Hash)]
+#[non_exhaustive]
 pub enum RefusalKind {
     /// 1 to 8: the term is not of good form.
     Form(FormFault),
@@ -77,8 +85,9 @@ pub enum RefusalKind {
     Unknown,
 }
 
-/// How a term's form is broken: numbers 1 to 8 for a term, 31 to 38 for a replacement.
+/// How a term's form is broken: numbers 1 to 8 for a term, 31 to 38 for a replacement. There may be more.
 #[derive(Clone, Copy, Debug, PartialEq, Eq, Hash)]
+#[non_exhaustive]
 pub enum FormFault {
     /// 1: the bytes end too early.
     EndsEarly,
@@ -113,20 +122,25 @@ impl FormFault {
         })
     }
 
-    fn sentence(self) -> &'static str {
-        match self {
+    fn sentence(self) -> Cow<'static, str> {
+        let sentence = match self {
             Self::EndsEarly => "the bytes end before the policy is complete",
             Self::UnknownKind => "the bytes name a kind of expression that does not exist here",
             Self::ForeignField => "the bytes give this kind of expression a part that it does not have",
             Self::ZeroWritten => "the bytes write out a part that is zero or empty, or set bits beyond the end of a value",
             Self::OutOfRange => {
-                "a value is out of range: a literal may have at most 128 bits, a CIDR prefix may be at most 255, \
-                 a one-bit value is 0 or 1, and there are four patterns"
+                return Cow::from(format!(
+                    "a value is out of range: a literal may have at most {MAX_LITERAL_BITS} bits, a CIDR prefix may be at most \
+                     {MAX_CIDR_PREFIX}, a one-bit value is 0 or 1, and there are four patterns"
+                ))
             }
-            Self::TooManyRecords => "the policy has more than 4,096 expressions",
-            Self::TooDeep => "the policy is nested more than 256 levels deep",
+            Self::TooManyRecords => {
+                return Cow::from(format!("the policy has more than {} expressions", grouped(MAX_RECORDS as u64)))
+            }
+            Self::TooDeep => return Cow::from(format!("the policy is nested more than {MAX_LEVELS} levels deep")),
             Self::LeftOver => "there are bytes left over behind the end of the policy",
-        }
+        };
+        Cow::from(sentence)
     }
 }
 
@@ -163,9 +177,9 @@ impl RefusalKind {
         }
     }
 
-    fn sentence(self) -> &'static str {
-        match self {
-            Self::Form(fault) | Self::Replacement(fault) => fault.sentence(),
+    fn sentence(self) -> Cow<'static, str> {
+        let sentence = match self {
+            Self::Form(fault) | Self::Replacement(fault) => return fault.sentence(),
             Self::Allowance => "the allowance must be from 1 to 65,535 nodes",
             Self::WorkMemory => "the work memory is too small for the allowance",
             Self::UnknownAlias => "no let around this use gives the alias a range of fields",
@@ -180,7 +194,10 @@ impl RefusalKind {
             Self::CidrAddress => "the CIDR address must have exactly as many bits as the range has fields",
             Self::WildcardWidth => "the wildcard's address and mask must each have exactly as many bits as the range has fields",
             Self::IpRangeWidth => {
-                "an address range needs a range of at most 128 fields, and neither bound may have more bits than that range"
+                return Cow::from(format!(
+                    "an address range needs a range of at most {MAX_RANGE_PATTERN_FIELDS} fields, and neither bound may have more bits \
+                     than that range"
+                ))
             }
             Self::IpRangeOrder => "the address range starts above its end",
             Self::NegatedNonTest => "only a test can be negated, and this operand is not a test",
@@ -188,10 +205,14 @@ impl RefusalKind {
             Self::AllowanceSpent => "desugaring makes more core nodes than the allowance, which is spent here",
             Self::FieldCount => "field 4,294,967,295 is used, and the count of fields would be too large a number",
             Self::BufferTooShort => "the answer does not fit in its buffer",
-            Self::ResultTooLarge => "with the replacement, the policy has more than 4,096 expressions or 256 levels",
+            Self::ResultTooLarge => {
+                let records = grouped(MAX_RECORDS as u64);
+                return Cow::from(format!("with the replacement, the policy has more than {records} expressions or {MAX_LEVELS} levels"));
+            }
             Self::SubrangeOutside => "the part that is asked for does not lie inside the alias's range",
             Self::Unknown => "the library gave a refusal that is not known here",
-        }
+        };
+        Cow::from(sentence)
     }
 
     /// Whether the refusal's place is a record's. That of bytes left over is the number of records.
@@ -228,7 +249,7 @@ impl fmt::Display for Refusal {
         if matches!(kind, RefusalKind::Replacement(_)) {
             f.write_str("in the replacement: ")?;
         }
-        f.write_str(kind.sentence())?;
+        f.write_str(&kind.sentence())?;
         if kind.has_place() {
             write!(f, " (record {}, refusal {})", self.place, self.number)
         } else {

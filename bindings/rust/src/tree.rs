@@ -1,279 +1,247 @@
-//! What terms and cores have in common. Nothing here recurses: a core can be as deep as it is large.
+//! Terms without recursion: a tree can be built at any depth.
 
 use std::fmt;
 
-use crate::record::{kind, Input, Record};
-use crate::Refusal;
+use crate::debug::{self, Shown};
+use crate::limits::{MAX_LEVELS, MAX_RECORDS};
+use crate::record::{kind, refusal, Input, Record, NAMES};
+use crate::{Exp, Expr, Pattern, Refusal};
 
-/// A tree whose nodes are records. `Default` is a leaf.
-pub(crate) trait Tree: Sized + Default {
-    /// What [`decode`] and [`encode`] accept.
-    const LIMITS: Limits;
-
-    /// The children, left to right.
-    fn children(&self) -> [Option<&Self>; 3];
-
-    fn children_mut(&mut self) -> [Option<&mut Self>; 3];
-
-    /// The node without its children.
-    fn record(&self) -> Record;
-
-    /// The node of a record. `child` gives its children, left to right, and must be called once for each.
-    fn from_record(record: Record, child: impl FnMut() -> Box<Self>) -> Self;
-}
-
-pub(crate) struct Limits {
-    pub records: usize,
-    pub depth: usize,
-    pub last_kind: u8,
-}
-
-impl Limits {
-    pub const TERM: Limits = Limits { records: 4_096, depth: 256, last_kind: kind::LAST };
-    pub const CORE: Limits = Limits { records: usize::MAX, depth: usize::MAX, last_kind: kind::LAST_OF_CORE };
-
-    /// Refuses a record by its index and its level, as form does before it reads the record.
-    fn admit(&self, place: usize, level: usize) -> Result<(), u32> {
-        if place >= self.records {
-            Err(6)
-        } else if level > self.depth {
-            Err(7)
-        } else {
-            Ok(())
-        }
-    }
-}
-
-/// The level of each record, in prefix order.
-struct Levels {
-    /// For each open level, how many of its records are still to come.
-    open: Vec<u8>,
-}
-
-impl Levels {
-    fn new() -> Self {
-        Levels { open: vec![1] }
-    }
-
-    /// The level of the next record, 1 for the root; `None` when the tree is complete.
-    fn next(&mut self) -> Option<usize> {
-        while let Some(left) = self.open.last_mut() {
-            if *left > 0 {
-                *left -= 1;
-                return Some(self.open.len());
-            }
-            self.open.pop();
-        }
-        None
-    }
-
-    /// The record just met has this many children.
-    fn descend(&mut self, children: u8) {
-        self.open.push(children);
+/// Refuses a record by its index and its level, as form does before it reads the record.
+fn admit(place: usize, level: usize) -> Result<(), u32> {
+    if place >= MAX_RECORDS {
+        Err(6)
+    } else if level > MAX_LEVELS {
+        Err(7)
+    } else {
+        Ok(())
     }
 }
 
 /// All nodes in prefix order, which is the order of the records.
-pub(crate) fn nodes<T: Tree>(root: &T) -> impl Iterator<Item = &T> {
-    let mut pending = vec![root];
+pub(crate) fn nodes(root: &Expr) -> impl Iterator<Item = &Expr> {
+    let mut next = Some(root);
+    let mut pending = Vec::new();
     std::iter::from_fn(move || {
-        let node = pending.pop()?;
-        pending.extend(node.children().into_iter().rev().flatten());
+        let node = next?;
+        let [first, second, third] = node.children();
+        pending.extend(third);
+        pending.extend(second);
+        next = first.or_else(|| pending.pop());
         Some(node)
     })
 }
 
-/// The tree of records that are in prefix order.
-pub(crate) fn build<T: Tree>(records: impl DoubleEndedIterator<Item = Record>) -> T {
-    // From the last record to the first: a node's children are complete before it, its first child on top.
-    let mut complete: Vec<T> = Vec::new();
-    for record in records.rev() {
-        let node = T::from_record(record, || Box::new(complete.pop().expect("the records of a whole tree")));
-        complete.push(node);
+/// The tree of the nodes' records, the last one first.
+fn build(records: impl Iterator<Item = Record<Vec<bool>>>) -> Exp {
+    // A node's children are complete before it, its first child on top.
+    let mut complete: Vec<Exp> = Vec::new();
+    for record in records {
+        let node = Expr::from_record(record, || complete.pop().expect("the records of a whole tree"));
+        complete.push(Box::new(node));
     }
     complete.pop().expect("the records of a whole tree")
 }
 
 /// The tree of the bytes, or the refusal of their form.
-pub(crate) fn decode<T: Tree>(bytes: &[u8]) -> Result<T, Refusal> {
+pub(crate) fn decode(bytes: &[u8]) -> Result<Exp, Refusal> {
     let mut input = Input(bytes);
     let mut records = Vec::new();
-    let mut levels = Levels::new();
-    while let Some(level) = levels.next() {
+    // For each open level, how many of its records are still to come.
+    let mut open = vec![1];
+    while let Some(left) = open.last_mut() {
+        if *left == 0 {
+            open.pop();
+            continue;
+        }
+        *left -= 1;
         let place = records.len();
-        let record = T::LIMITS
-            .admit(place, level)
-            .and_then(|()| Record::read(&mut input, T::LIMITS.last_kind))
+        let record = admit(place, open.len())
+            .and_then(|()| Record::read(&mut input, kind::LAST))
             .map_err(|number| refusal(number, place))?;
-        levels.descend(record.children());
+        open.push(record.children());
         records.push(record);
     }
     if !input.0.is_empty() {
         return Err(refusal(8, records.len()));
     }
-    Ok(build(records.into_iter()))
+    Ok(build(records.into_iter().rev()))
 }
 
-/// The bytes of the tree, or the refusal that form would give if they could be written.
-pub(crate) fn encode<T: Tree>(root: &T) -> Result<Vec<u8>, Refusal> {
-    let mut bytes = Vec::new();
-    let mut levels = Levels::new();
-    for (place, node) in nodes(root).enumerate() {
-        let level = levels.next().expect("a level for each node");
-        T::LIMITS.admit(place, level).map_err(|number| refusal(number, place))?;
-        let record = node.record();
-        if !record.fits() {
-            return Err(refusal(5, place));
-        }
-        record.write(&mut bytes);
-        levels.descend(record.children());
-    }
-    Ok(bytes)
-}
-
-fn refusal(number: u32, place: usize) -> Refusal {
-    Refusal { number, place: u32::try_from(place).unwrap_or(u32::MAX) }
-}
-
-pub(crate) fn clone<T: Tree>(root: &T) -> T {
-    let nodes: Vec<&T> = nodes(root).collect();
-    build(nodes.into_iter().map(T::record))
-}
-
-pub(crate) fn equal<T: Tree>(left: &T, right: &T) -> bool {
-    // A record says how many children it has, so equal records in prefix order are equal trees.
-    nodes(left).map(T::record).eq(nodes(right).map(T::record))
-}
-
-/// Drops all that is below a node. The node keeps leaves as children.
-pub(crate) fn drop_below<T: Tree>(node: &mut T) {
+/// Appends the bytes of the tree, or gives the refusal that form would give if they could be written.
+pub(crate) fn encode(root: &Expr, bytes: &mut Vec<u8>) -> Result<(), Refusal> {
     let mut pending = Vec::new();
-    take_inner_children(node, &mut pending);
-    while let Some(mut node) = pending.pop() {
-        take_inner_children(&mut node, &mut pending);
+    let (mut next, mut level, mut place) = (root, 1, 0);
+    loop {
+        admit(place, level).and_then(|()| write(next, bytes)).map_err(|number| refusal(number, place))?;
+        place += 1;
+        let [first, second, third] = next.children();
+        match first {
+            Some(first) => {
+                level += 1;
+                pending.extend(third.map(|third| (third, level)));
+                pending.extend(second.map(|second| (second, level)));
+                next = first;
+            }
+            None => match pending.pop() {
+                Some((node, of_level)) => (next, level) = (node, of_level),
+                None => return Ok(()),
+            },
+        }
     }
 }
 
-/// Moves out those children that have children themselves.
-fn take_inner_children<T: Tree>(node: &mut T, into: &mut Vec<T>) {
-    for child in node.children_mut().into_iter().flatten() {
-        if child.children()[0].is_some() {
-            into.push(std::mem::take(child));
+/// Appends the record of a node. Each kind has an arm of its own, so that the fields it does not have cost nothing.
+#[inline]
+fn write(node: &Expr, out: &mut Vec<u8>) -> Result<(), u32> {
+    match node {
+        Expr::VarMatch(name, pattern) => match pattern {
+            Pattern::Exact(a) => Record { name: *name, a: a.as_slice(), ..Record::new(kind::VAR_MATCH) }.write(out),
+            _ => Record { name: *name, ..Record::new(kind::VAR_MATCH) }.with_pattern(pattern).write(out),
+        },
+        Expr::BitRangeMatch(start, end, pattern) => {
+            Record { start: *start, end: *end, ..Record::new(kind::BIT_RANGE_MATCH) }.with_pattern(pattern).write(out)
+        }
+        Expr::VarAssign(name, bits) => Record { name: *name, a: bits.as_slice(), ..Record::new(kind::VAR_ASSIGN) }.write(out),
+        Expr::VarTest(name, bits) => Record { name: *name, a: bits.as_slice(), ..Record::new(kind::VAR_TEST) }.write(out),
+        Expr::Assign(field, value) => {
+            Record { start: *field, number: usize::from(*value), ..Record::new(kind::ASSIGN) }.write(out)
+        }
+        Expr::Test(field, value) => Record { start: *field, number: usize::from(*value), ..Record::new(kind::TEST) }.write(out),
+        Expr::Let(..) | Expr::LetBitRange(..) | Expr::Var(_) => node.record().write(out),
+        Expr::BitRangeAssign(..) | Expr::BitRangeTest(..) => node.record().write(out),
+        Expr::Zero => {
+            out.push(0);
+            Ok(())
+        }
+        _ => {
+            out.extend_from_slice(&[1, node.record().kind]);
+            Ok(())
         }
     }
 }
 
-/// Writes the tree on one line, as `derive(Debug)` would.
-pub(crate) fn debug<T: Tree>(root: &T, f: &mut fmt::Formatter<'_>) -> fmt::Result {
-    enum Piece<'a, T> {
-        Node(&'a T),
-        Text(&'static str),
-    }
-    let mut pending = vec![Piece::Node(root)];
-    while let Some(piece) = pending.pop() {
-        let node = match piece {
-            Piece::Text(text) => {
-                f.write_str(text)?;
-                continue;
-            }
-            Piece::Node(node) => node,
-        };
-        let record = node.record();
-        f.write_str(NAMES[usize::from(record.kind)])?;
-        let parts = parts(record);
-        let children: Vec<&T> = node.children().into_iter().flatten().collect();
-        if parts.is_empty() && children.is_empty() {
-            continue;
-        }
-        write!(f, "({}", parts.join(", "))?;
-        pending.push(Piece::Text(")"));
-        for (i, child) in children.into_iter().enumerate().rev() {
-            pending.push(Piece::Node(child));
-            if i > 0 || !parts.is_empty() {
-                pending.push(Piece::Text(", "));
-            }
-        }
-    }
-    Ok(())
-}
-
-/// The names of the kinds, in the order of their numbers.
-const NAMES: [&str; kind::LAST as usize + 1] = [
-    "Zero",
-    "One",
-    "Top",
-    "Dup",
-    "End",
-    "Assign",
-    "Test",
-    "Union",
-    "Intersect",
-    "Xor",
-    "Difference",
-    "Sequence",
-    "LtlUntil",
-    "Complement",
-    "Star",
-    "LtlNext",
-    "TestNegation",
-    "IfThenElse",
-    "Let",
-    "LetBitRange",
-    "Var",
-    "VarAssign",
-    "VarTest",
-    "BitRangeAssign",
-    "BitRangeTest",
-    "BitRangeMatch",
-    "VarMatch",
-];
-
-/// What stands in a node before its children, as text.
-fn parts(record: Record) -> Vec<String> {
-    let Record { kind, name, start, end, .. } = record;
-    match kind {
-        kind::ASSIGN | kind::TEST => vec![start.to_string(), (record.number == 1).to_string()],
-        kind::LET | kind::VAR => vec![name.to_string()],
-        kind::LET_BIT_RANGE => vec![name.to_string(), start.to_string(), end.to_string()],
-        kind::VAR_ASSIGN | kind::VAR_TEST => vec![name.to_string(), format!("{:?}", record.a)],
-        kind::BIT_RANGE_ASSIGN | kind::BIT_RANGE_TEST => {
-            vec![start.to_string(), end.to_string(), format!("{:?}", record.a)]
-        }
-        kind::BIT_RANGE_MATCH => vec![start.to_string(), end.to_string(), format!("{:?}", record.into_pattern())],
-        kind::VAR_MATCH => vec![name.to_string(), format!("{:?}", record.into_pattern())],
-        _ => Vec::new(),
+/// Drops all that is below a node, which keeps leaves as children.
+///
+/// A child cannot be moved out of a node without another in its place, and to move what is in its box is slow. So a grandchild
+/// changes places with a leaf beside its parent; the parent then has only leaves, and is dropped without going deeper. Only where a
+/// node has two children with children one of them is set aside.
+fn drop_below(root: &mut Expr) {
+    let mut aside = Vec::new();
+    drop_deepest(root, &mut aside);
+    while let Some(mut node) = aside.pop() {
+        drop_deepest(&mut node, &mut aside);
     }
 }
 
-/// Drop, clone, equality and debug of a tree, none of which recurses: it may be as deep as it is large.
-macro_rules! without_recursion {
-    ($tree:ident) => {
-        impl Drop for $tree {
-            fn drop(&mut self) {
-                $crate::tree::drop_below(self);
+fn drop_deepest(node: &mut Expr, aside: &mut Vec<Expr>) {
+    loop {
+        match node.children_mut() {
+            [Some(first), Some(second), third] => {
+                set_aside(third, aside);
+                match (first.is_leaf(), second.is_leaf()) {
+                    (true, true) => return,
+                    (true, false) => lift(first, second, aside),
+                    (false, true) => lift(second, first, aside),
+                    (false, false) => set_aside(Some(first), aside),
+                }
             }
-        }
-
-        impl Clone for $tree {
-            fn clone(&self) -> Self {
-                $crate::tree::clone(self)
+            [Some(child), ..] if !child.is_leaf() => {
+                let child = std::mem::take(&mut **child);
+                *node = child;
             }
+            _ => return,
         }
-
-        impl PartialEq for $tree {
-            fn eq(&self, other: &Self) -> bool {
-                $crate::tree::equal(self, other)
-            }
-        }
-
-        impl Eq for $tree {}
-
-        impl std::fmt::Debug for $tree {
-            fn fmt(&self, f: &mut std::fmt::Formatter<'_>) -> std::fmt::Result {
-                $crate::tree::debug(self, f)
-            }
-        }
-    };
+    }
 }
 
-pub(crate) use without_recursion;
+/// Drops the parent, whose box becomes a leaf. Of its children with children, one takes the leaf's place.
+#[inline]
+fn lift(leaf: &mut Exp, parent: &mut Exp, aside: &mut Vec<Expr>) {
+    let [first, second, third] = parent.children_mut();
+    let inner = |child: &&mut Exp| !child.is_leaf();
+    let (first, second) = (first.filter(inner), second.filter(inner));
+    set_aside(third, aside);
+    match (first, second) {
+        (Some(first), second) => {
+            set_aside(second, aside);
+            std::mem::swap(leaf, first);
+        }
+        (None, Some(second)) => std::mem::swap(leaf, second),
+        (None, None) => {}
+    }
+    **parent = Expr::Zero;
+}
+
+/// Moves the child out of its box, if it has children.
+#[inline]
+fn set_aside(child: Option<&mut Exp>, aside: &mut Vec<Expr>) {
+    if let Some(child) = child.filter(|child| !child.is_leaf()) {
+        aside.push(std::mem::take(&mut **child));
+    }
+}
+
+#[inline]
+fn has_inner_child(node: &Expr) -> bool {
+    let [first, second, third] = node.children();
+    let inner = |child: &Expr| !child.is_leaf();
+    first.is_some_and(inner) || second.is_some_and(inner) || third.is_some_and(inner)
+}
+
+impl Drop for Expr {
+    #[inline]
+    fn drop(&mut self) {
+        if !self.is_leaf() && has_inner_child(self) {
+            drop_below(self);
+        }
+    }
+}
+
+impl Clone for Expr {
+    fn clone(&self) -> Self {
+        let nodes: Vec<&Expr> = nodes(self).collect();
+        *build(nodes.into_iter().rev().map(|node| node.record().to_owned()))
+    }
+}
+
+impl PartialEq for Expr {
+    fn eq(&self, other: &Self) -> bool {
+        // A record says how many children it has, so equal records in prefix order are equal trees.
+        nodes(self).map(Expr::record).eq(nodes(other).map(Expr::record))
+    }
+}
+
+impl Eq for Expr {}
+
+/// Writes the tree as `derive(Debug)` would.
+impl fmt::Debug for Expr {
+    fn fmt(&self, f: &mut fmt::Formatter<'_>) -> fmt::Result {
+        debug::tree(self, f)
+    }
+}
+
+impl Shown for &Expr {
+    fn name(self) -> &'static str {
+        NAMES[usize::from(self.record().kind)]
+    }
+
+    fn children(self) -> [Option<Self>; 3] {
+        Expr::children(self)
+    }
+
+    fn write_parts(self, f: &mut fmt::Formatter<'_>) -> Result<bool, fmt::Error> {
+        match self {
+            Expr::Assign(field, value) | Expr::Test(field, value) => write!(f, "({field}, {value}")?,
+            Expr::Let(name, ..) | Expr::Var(name) => write!(f, "({name}")?,
+            Expr::LetBitRange(name, start, end, _) => write!(f, "({name}, {start}, {end}")?,
+            Expr::VarAssign(name, bits) | Expr::VarTest(name, bits) => write!(f, "({name}, {bits:?}")?,
+            Expr::BitRangeAssign(start, end, bits) | Expr::BitRangeTest(start, end, bits) => {
+                write!(f, "({start}, {end}, {bits:?}")?
+            }
+            Expr::BitRangeMatch(start, end, pattern) => write!(f, "({start}, {end}, {pattern:?}")?,
+            Expr::VarMatch(name, pattern) => write!(f, "({name}, {pattern:?}")?,
+            _ => return Ok(false),
+        }
+        Ok(true)
+    }
+}

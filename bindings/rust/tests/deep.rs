@@ -20,7 +20,8 @@ fn core_of_60_000_levels() {
         let mut bytes = [1, 15].repeat(59_999); // LtlNext
         bytes.push(0); // Zero
         let core = Core::from_bytes(&bytes).unwrap();
-        assert_eq!(core.nodes().count(), 60_000);
+        assert_eq!(core.len(), 60_000);
+        assert_eq!(core.root().nodes().count(), 60_000);
         assert_eq!(core.to_bytes(), bytes);
         let copy = core.clone();
         assert!(copy == core);
@@ -41,7 +42,7 @@ fn core_that_the_library_made() {
     assert_eq!(desugared.drawn, 60_001);
     on_a_small_stack(move || {
         let core = desugared.core;
-        assert_eq!(core.nodes().count(), 60_001);
+        assert_eq!(core.len(), 60_001);
         assert_eq!(Core::from_bytes(&core.to_bytes()).unwrap(), core);
     });
 }
@@ -49,19 +50,34 @@ fn core_that_the_library_made() {
 #[test]
 fn core_that_leans_left() {
     on_a_small_stack(|| {
-        let core = (0..60_000).fold(Core::One, |rest, field| Core::Sequence(Box::new(rest), Box::new(Core::Assign(field, true))));
-        let copy = core.clone();
-        assert!(copy == core);
+        let leaning = (0..60_000).fold(Expr::one(), |rest, field| Expr::sequence(rest, Expr::assign(field, true)));
+        let core = Core::from_expr(&leaning).unwrap();
+        assert!(core.clone() == core);
+        assert!(core.root() == core.clone().root());
+        assert!(core.to_expr() == leaning);
+        assert!(leaning.clone() == leaning);
+        assert!(Core::from_bytes(&core.to_bytes()).unwrap() == core);
+    });
+}
+
+#[test]
+fn lines_of_a_deep_tree() {
+    on_a_small_stack(|| {
+        let deep = (0..20_000).fold(Expr::one(), |body, _| Expr::star(body));
+        let lines = format!("{:#?}", Core::from_expr(&deep).unwrap());
+        assert_eq!(lines.lines().count(), 40_001);
+        assert!(lines.len() < 20_000_000);
+        assert!(format!("{deep:#?}") == lines);
     });
 }
 
 #[test]
 fn children_can_be_taken() {
-    let mut core = Core::Union(Box::new(Core::Test(0, true)), Box::new(Core::Dup));
-    let Core::Union(a, b) = &mut core else { unreachable!() };
+    let mut term = Expr::union(Expr::test(0, true), Expr::dup());
+    let Expr::Union(a, b) = &mut *term else { unreachable!() };
     let (a, b) = (std::mem::take(&mut **a), std::mem::take(&mut **b));
-    assert_eq!((a, b), (Core::Test(0, true), Core::Dup));
-    assert_eq!(core, Core::Union(Box::new(Core::Zero), Box::new(Core::Zero)));
+    assert_eq!((a, b), (Expr::Test(0, true), Expr::Dup));
+    assert_eq!(term, Expr::union(Expr::zero(), Expr::zero()));
 }
 
 /// The library recurses over a term, whose depth is limited.

@@ -1,6 +1,9 @@
 //! The probes of the requirement ("document 01"), starred and not.
 
-use netkat::{bits, bytes, desugar, Core, Desugared, Desugarer, Exp, Expr, Pattern, Refusal};
+use std::fs;
+use std::path::Path;
+
+use netkat::{bits, bytes, desugar, Core, Desugared, Desugarer, Exp, Expr, Kind, Pattern, Refusal};
 
 fn desugared(term: &Expr) -> Desugared {
     Desugarer::with_allowance(1_000).desugar(term).unwrap()
@@ -13,12 +16,19 @@ fn refused(term: &Expr) -> u32 {
     refusal.number
 }
 
+/// The core that is written as an expression.
+fn core(expr: Exp) -> Core {
+    Core::from_expr(&expr).unwrap()
+}
+
 /// A chain of tests that leans right.
 fn tests(fields: &[(u32, bool)]) -> Core {
     let (&(field, value), front) = fields.split_last().unwrap();
-    front.iter().rev().fold(Core::Test(field, value), |rest, &(field, value)| {
-        Core::Intersect(Box::new(Core::Test(field, value)), Box::new(rest))
-    })
+    let chain = front
+        .iter()
+        .rev()
+        .fold(Expr::test(field, value), |rest, &(field, value)| Expr::intersect(Expr::test(field, value), rest));
+    core(chain)
 }
 
 fn cidr(prefix_len: usize) -> Exp {
@@ -49,10 +59,10 @@ fn direct_range_test() {
 #[test]
 fn empty_range() {
     let test = Expr::bit_range_test(3, 3, vec![]);
-    assert_eq!(desugar(&test), Ok(Core::One));
-    assert_eq!(desugar(&Expr::bit_range_assign(3, 3, vec![])), Ok(Core::One));
-    assert_eq!(desugar(&Expr::test_negation(test)), Ok(Core::Zero));
-    assert_eq!(desugar(&Expr::test_negation(Expr::bit_range_assign(3, 3, vec![]))), Ok(Core::Zero));
+    assert_eq!(desugar(&test), Ok(core(Expr::one())));
+    assert_eq!(desugar(&Expr::bit_range_assign(3, 3, vec![])), Ok(core(Expr::one())));
+    assert_eq!(desugar(&Expr::test_negation(test)), Ok(core(Expr::zero())));
+    assert_eq!(desugar(&Expr::test_negation(Expr::bit_range_assign(3, 3, vec![]))), Ok(core(Expr::zero())));
 }
 
 #[test]
@@ -69,31 +79,31 @@ fn alias_literals() {
 fn cidr_patterns() {
     assert_eq!(desugared(&cidr(3)).core, tests(&[(5, true), (6, false), (7, true)]));
     assert_eq!(refused(&cidr(9)), 17);
-    assert_eq!(desugar(&cidr(0)), Ok(Core::One));
+    assert_eq!(desugar(&cidr(0)), Ok(core(Expr::one())));
 }
 
 #[test]
 fn range_patterns() {
-    assert_eq!(desugared(&values(2, 1, 2)).core.nodes().count(), 11);
-    assert_eq!(desugar(&values(2, 0, 3)), Ok(Core::One));
+    assert_eq!(desugared(&values(2, 1, 2)).core.len(), 11);
+    assert_eq!(desugar(&values(2, 0, 3)), Ok(core(Expr::one())));
     assert_eq!(refused(&values(2, 2, 1)), 21);
     assert_eq!(refused(&values(129, 0, 1)), 20);
 }
 
 #[test]
 fn negated_xor() {
-    let xor = || Box::new(Core::Xor(Box::new(Core::Test(0, true)), Box::new(Core::Test(1, true))));
-    let once = Expr::test_negation(Expr::xor(Expr::test(0, true), Expr::test(1, true)));
+    let xor = || Expr::xor(Expr::test(0, true), Expr::test(1, true));
+    let once = Expr::test_negation(xor());
     let twice = Expr::test_negation(once.clone());
-    assert_eq!(desugared(&once), Desugared { core: Core::Difference(Box::new(Core::One), xor()), drawn: 8 });
-    assert_eq!(desugared(&twice), Desugared { core: Core::Union(Box::new(Core::Zero), xor()), drawn: 13 });
+    assert_eq!(desugared(&once), Desugared { core: core(Expr::difference(Expr::one(), xor())), drawn: 8 });
+    assert_eq!(desugared(&twice), Desugared { core: core(Expr::union(Expr::zero(), xor())), drawn: 13 });
 }
 
 #[test]
 fn one_is_kept_in_an_if() {
     let core = desugared(&Expr::if_then_else(Expr::test(0, true), Expr::one(), Expr::zero())).core;
-    assert_eq!(core.nodes().count(), 7);
-    assert!(core.nodes().any(|node| *node == Core::One));
+    assert_eq!(core.len(), 7);
+    assert!(core.nodes().any(|node| node.kind() == Kind::One));
 }
 
 #[test]
@@ -106,7 +116,7 @@ fn definitions_keep_their_bindings() {
 
 #[test]
 fn alias_is_judged_on_use() {
-    assert_eq!(desugar(&Expr::let_bit_range(1, 5, 3, Expr::one())), Ok(Core::One));
+    assert_eq!(desugar(&Expr::let_bit_range(1, 5, 3, Expr::one())), Ok(core(Expr::one())));
     assert_eq!(refused(&Expr::let_bit_range(1, 5, 3, Expr::var_test(1, bits(1, 1)))), 14);
 }
 
@@ -121,10 +131,21 @@ fn unbound_variable() {
     assert_eq!(bytes::desugar(&[0x01, 0x14]), Err(Refusal { number: 12, place: 0 }));
 }
 
+/// The package has copies of two files of the project, so that its tests need nothing else. Where the project is there, they are the same.
+#[test]
+fn copies_are_the_project_s_files() {
+    let package = Path::new(env!("CARGO_MANIFEST_DIR"));
+    for (copy, file) in [("probes.txt", "tests/probes.txt"), ("prefix.term", "examples/prefix.term")] {
+        if let Ok(bytes) = fs::read(package.join("../..").join(file)) {
+            assert!(fs::read(package.join("tests").join(copy)).unwrap() == bytes, "tests/{copy} is not {file} of the project");
+        }
+    }
+}
+
 /// tests/probes.txt of the project; docs/TESTS.md says what its lines are.
 #[test]
 fn probe_lines() {
-    let lines = include_str!("../../../tests/probes.txt").lines().filter(|line| !line.starts_with('#'));
+    let lines = include_str!("probes.txt").lines().filter(|line| !line.starts_with('#'));
     let mut count = 0;
     for line in lines {
         let words: Vec<&str> = line.split_whitespace().filter(|word| *word != "=>").collect();
@@ -158,7 +179,7 @@ fn probe_lines() {
 #[test]
 fn prefix_example() {
     let mut desugarer = Desugarer::with_allowance(1_000);
-    let desugared = desugarer.desugar_bytes(include_bytes!("../../../examples/prefix.term")).unwrap();
+    let desugared = desugarer.desugar_bytes(include_bytes!("prefix.term")).unwrap();
     assert_eq!((desugared.drawn, desugared.core.len()), (15, 61));
     assert!(desugared.core.starts_with(&hex("0107010b0108250605000000")));
 }

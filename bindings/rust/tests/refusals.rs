@@ -3,7 +3,7 @@
 use std::collections::HashSet;
 use std::error::Error;
 
-use netkat::{bits, bytes, compute_subrange, Desugarer, Exp, Expr, FormFault, Pattern, Refusal, RefusalKind};
+use netkat::{bits, bytes, compute_subrange, limits, Desugarer, Exp, Expr, FormFault, Pattern, Refusal, RefusalKind};
 
 fn numbers() -> impl Iterator<Item = u32> {
     (1..=28).chain(31..=38)
@@ -82,7 +82,7 @@ fn balanced(depth: usize) -> Vec<u8> {
 
 #[test]
 fn trees_beyond_the_byte_form() {
-    let long = Expr::union(Expr::one(), Expr::var_test(1, bits(0, 129)));
+    let long = Expr::union(Expr::one(), Expr::var_test(1, bits(0, limits::MAX_LITERAL_BITS + 1)));
     assert_eq!(refused(long.check()), (5, 2));
     assert_eq!(refused(Expr::one().substitute(1, &long)), (35, 2));
     let prefix = Pattern::Cidr { address: bits(0, 8), prefix_len: 256 };

@@ -54,8 +54,8 @@ fn cores_come_back() {
                 let core = Core::from_bytes(desugared.core).unwrap();
                 assert_eq!(core.to_bytes(), desugared.core);
                 assert_eq!(core.clone(), core);
-                assert!(core.nodes().count() <= desugared.drawn as usize);
-                assert_eq!(core.to_expr().nodes().count(), core.nodes().count());
+                assert!(core.len() <= desugared.drawn as usize);
+                assert_eq!(core.to_expr().nodes().count(), core.len());
                 assert_eq!(desugarer.desugar(&term).unwrap().core, core);
             }
             Err(Refusal { number: 24, .. }) => assert!(checked.is_ok()),

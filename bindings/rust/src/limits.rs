@@ -1,0 +1,87 @@
+//! The limits of one policy, and what to do with thousands of rules.
+//!
+//! | what | limit | beyond it |
+//! |---|---|---|
+//! | expressions of a policy | [`MAX_RECORDS`] | 6 |
+//! | levels of a policy | [`MAX_LEVELS`] | 7 |
+//! | bits of a literal | [`MAX_LITERAL_BITS`] | 5 |
+//! | a CIDR prefix | [`MAX_CIDR_PREFIX`], and the fields that it is matched against | 5, 17 |
+//! | fields that a range pattern is matched against | [`MAX_RANGE_PATTERN_FIELDS`] | 20 |
+//! | names | 65,536 | [`Names::try_intern`](crate::Names::try_intern) gives none |
+//! | core nodes that the steps of a desugaring make | [`Desugarer::MAX_ALLOWANCE`](crate::Desugarer::MAX_ALLOWANCE), or less as the caller likes | 24 |
+//!
+//! A core has no limit of its own: not more nodes than the steps made, and any depth. [`Refusal::explain`](crate::Refusal::explain)
+//! says which limit a policy is beyond, and by how much.
+//!
+//! # Long lists
+//!
+//! A union of rules that is built one by one gets a level for each, and 256 levels are soon used up.
+//! [`Expr::union_all`](crate::Expr::union_all) builds it balanced, and the limit on expressions is the next to be met: a rule `dst ~ 10.1.0.0/16 ;
+//! x32 := 1` has three, the union one more, so that a policy has room for about a thousand.
+//!
+//! # Thousands of rules
+//!
+//! More rules are desugared in slices, and the cores are joined. Nothing is lost by that, because desugaring goes child by child:
+//!
+//! - The core of `a + b` is the union of the core of `a` and the core of `b`.
+//! - A let leaves nothing in the core but what its body becomes. So the core of `let .. in a + b` is the union of the cores of `let .. in a`
+//!   and `let .. in b`: repeat the lets and aliases that stand around the list around each slice.
+//! - An expression that breaks a rule in the whole breaks it in its slice, and the other way round; the place then counts in the slice.
+//! - Each slice has an allowance of its own. A definition that is repeated is drawn in each slice anew.
+//!
+//! ```
+//! use std::net::Ipv4Addr;
+//! use netkat::{desugar, Core, Desugarer, Exp, Expr, Names, Pattern, Refusal};
+//!
+//! /// The core of the union of all rules with the bindings around it; or the first rule of a refused slice, and the refusal.
+//! fn desugar_rules(rules: &[Exp], size: usize, bind: impl Fn(Exp) -> Exp) -> Result<Core, (usize, Refusal)> {
+//!     let mut desugarer = Desugarer::new();
+//!     let mut cores = Vec::new();
+//!     for (i, slice) in rules.chunks(size).enumerate() {
+//!         let policy = bind(Expr::union_all(slice.iter().cloned()));
+//!         let desugared = desugarer.desugar(&policy).map_err(|refusal| (i * size, refusal))?;
+//!         cores.push(desugared.core);
+//!     }
+//!     Ok(Core::union_all(cores))
+//! }
+//!
+//! let mut names = Names::new();
+//! let dst = names.intern("dst");
+//! let bind = |rules| Expr::let_bit_range(dst, 0, 32, rules);
+//! let rules: Vec<Exp> = (0..5_000u32)
+//!     .map(|i| {
+//!         let net = Pattern::ipv4_prefix(Ipv4Addr::from(i << 16), 16);
+//!         Expr::sequence(Expr::var_match(dst, net), Expr::assign(32 + i % 8, true))
+//!     })
+//!     .collect();
+//!
+//! // All at once they are too many.
+//! assert_eq!(desugar(&bind(Expr::union_all(rules.clone()))).unwrap_err().number, 6);
+//! let core = desugar_rules(&rules, 512, bind).unwrap();
+//! assert_eq!(core.len(), 5_000 * (31 + 2) + 4_999);
+//!
+//! // Of a list that fits, the slices make the same core as the whole.
+//! let whole = desugar(&bind(Expr::union_all(rules[..1_000].to_vec()))).unwrap();
+//! assert_eq!(desugar_rules(&rules[..1_000], 512, bind).unwrap(), whole);
+//! ```
+//!
+//! The last line holds of the tree, node by node, since the size of the slices is a power of two and both unions join neighbours. With
+//! other sizes the unions are grouped in another way, and the meaning is the same.
+//!
+//! What holds of `+` holds of `&`, `^`, `-`, `U`, `~`, `*` and `X` as well. Of `;` it holds but for a `1`, which is left out. It does not hold below `!` or
+//! in the condition of an if, which change the core that they are given; a first-match list of nested ifs cannot be cut in this way.
+
+/// The most expressions of a policy: its records.
+pub const MAX_RECORDS: usize = 4_096;
+
+/// The most levels of a policy; the root is at level 1.
+pub const MAX_LEVELS: usize = 256;
+
+/// The most bits of a literal.
+pub const MAX_LITERAL_BITS: usize = 128;
+
+/// The longest prefix that can be written. The number of fields that it is matched against limits it further.
+pub const MAX_CIDR_PREFIX: usize = 255;
+
+/// The most fields that a range pattern can be matched against.
+pub const MAX_RANGE_PATTERN_FIELDS: usize = 128;
