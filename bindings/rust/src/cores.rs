@@ -100,9 +100,10 @@ impl Core {
 
     /// The core of the bytes, which has about so many nodes.
     fn of_bytes(bytes: &[u8], nodes: usize) -> Result<Self, Refusal> {
-        let mut slots = slots::decode(bytes, Vec::with_capacity(nodes))?;
-        slots.shrink_to_fit();
-        Ok(Core { slots })
+        let mut core = Core { slots: Vec::with_capacity(nodes) };
+        slots::decode(bytes, &mut core.slots)?;
+        core.slots.shrink_to_fit();
+        Ok(core)
     }
 
     /// The bytes of the core.

@@ -148,7 +148,7 @@ impl Desugarer {
         self.term.clear();
         tree::encode(term, &mut self.term)?;
         let (core, _) = self.memory.desugar(&self.term, self.allowance)?;
-        self.slots = slots::decode(core, std::mem::take(&mut self.slots)).expect("the library writes cores of good form");
+        slots::decode(core, &mut self.slots).expect("the library writes cores of good form");
         Ok(slots::to_expr(&self.slots, &mut self.complete))
     }
 

@@ -26,8 +26,8 @@ impl Slot {
 }
 
 /// Takes nodes in prefix order and finds the second children.
-struct Builder {
-    slots: Vec<Slot>,
+struct Builder<'a> {
+    slots: &'a mut Vec<Slot>,
     /// The innermost operator whose first child is not complete. Until it is, the operator's slot holds the next such operator
     /// further out.
     pending: u32,
@@ -37,9 +37,9 @@ struct Builder {
 /// Ends the list of pending operators; no index.
 const NONE: u32 = u32::MAX;
 
-impl Builder {
-    /// Builds in the memory of `slots`, which are dropped.
-    fn new(mut slots: Vec<Slot>) -> Self {
+impl<'a> Builder<'a> {
+    /// Builds in `slots`, which are replaced.
+    fn new(slots: &'a mut Vec<Slot>) -> Self {
         slots.clear();
         Builder { slots, pending: NONE, complete: false }
     }
@@ -68,8 +68,8 @@ impl Builder {
 
     /// Reads what a core mostly consists of, operators and their tests, away from the end of the bytes and of the tree. Gives the
     /// bytes that are not read.
-    fn read_common<'a>(&mut self, mut bytes: &'a [u8]) -> &'a [u8] {
-        let slots = &mut self.slots;
+    fn read_common<'b>(&mut self, mut bytes: &'b [u8]) -> &'b [u8] {
+        let slots = &mut *self.slots;
         let mut pending = self.pending;
         while let Some(window) = bytes.first_chunk::<16>() {
             let (first, second) = (word_at::<0>(window), word_at::<2>(window));
@@ -100,7 +100,7 @@ impl Builder {
     }
 
     /// Reads a record: quickly if its form is good, else as a record of a term, for the refusal.
-    fn read<'a>(&mut self, bytes: &'a [u8]) -> Result<&'a [u8], u32> {
+    fn read<'b>(&mut self, bytes: &'b [u8]) -> Result<&'b [u8], u32> {
         if let Some((slot, length)) = slot_of_bytes(bytes) {
             if let Some(rest) = bytes.get(length..) {
                 self.push(slot)?;
@@ -114,8 +114,8 @@ impl Builder {
     }
 }
 
-/// The slots of the bytes of a core, in the memory of `slots`, or the refusal of their form.
-pub(crate) fn decode(bytes: &[u8], slots: Vec<Slot>) -> Result<Vec<Slot>, Refusal> {
+/// Replaces `slots` by those of the bytes of a core, or gives the refusal of their form.
+pub(crate) fn decode(bytes: &[u8], slots: &mut Vec<Slot>) -> Result<(), Refusal> {
     let mut builder = Builder::new(slots);
     let mut rest = bytes;
     while !builder.complete {
@@ -125,7 +125,7 @@ pub(crate) fn decode(bytes: &[u8], slots: Vec<Slot>) -> Result<Vec<Slot>, Refusa
     if !rest.is_empty() {
         return Err(refusal(8, builder.slots.len()));
     }
-    Ok(builder.slots)
+    Ok(())
 }
 
 /// The slot and the length of the record of good form that the bytes begin with.
@@ -258,11 +258,12 @@ fn to_node(slot: &Slot, mut child: impl FnMut() -> Exp) -> Exp {
 
 /// The slots of an expression that has only kinds of the core, else 2 at the first node of another kind.
 pub(crate) fn of_expr(expr: &Expr) -> Result<Vec<Slot>, Refusal> {
-    let mut builder = Builder::new(Vec::new());
+    let mut slots = Vec::new();
+    let mut builder = Builder::new(&mut slots);
     for (place, node) in expr.nodes().enumerate() {
         let pushed = slot_of(&node.record()).ok_or(2).and_then(|slot| builder.push(slot));
         pushed.map_err(|number| refusal(number, place))?;
     }
-    builder.slots.shrink_to_fit();
-    Ok(builder.slots)
+    slots.shrink_to_fit();
+    Ok(slots)
 }
