@@ -1,4 +1,4 @@
-//! The six functions of libnetkat.a as safe functions on slices. The only file with unsafe code.
+//! The functions of libnetkat.a as safe functions on slices. The only file with unsafe code.
 //!
 //! The declarations follow include/netkat.h. A Rust slice meets what that file asks of a pointer and its length: the pointer is
 //! never null, the elements are there, and the borrow rules keep a slice that is written apart from all others.
@@ -37,6 +37,7 @@ extern "C" {
     fn netkat_is_test_fragment(term: *const u8, term_len: usize) -> Answer;
     fn netkat_num_fields(term: *const u8, term_len: usize) -> Answer;
     fn netkat_compute_subrange(alias_start: u32, alias_end: u32, sub_start: u32, sub_end: u32) -> Answer;
+    fn netkat_version() -> u32;
 }
 
 /// The two values of a success.
@@ -81,8 +82,8 @@ impl Memory {
         let (work, out) = (self.work.spare_capacity_mut(), self.out.spare_capacity_mut());
         let (work_len, out_len) = (work.len(), out.len());
         // SAFETY: each pointer and its length are those of a slice; `work` and `out` are borrowed mutably, so nothing overlaps them.
-        // They are not initialised: the library writes each number of `work` and each byte of `out` before it reads it, or else its
-        // answer would depend on them.
+        // They are not initialised, and they need not be: the answer does not depend on what they hold (proved). Of `out` the library
+        // may read a byte to write it back as it is, which is no more than to leave it.
         let answer = unsafe {
             netkat_desugar(
                 term.as_ptr(),
@@ -143,4 +144,10 @@ pub(crate) fn num_fields(term: &[u8]) -> Values {
 pub(crate) fn compute_subrange(alias_start: u32, alias_end: u32, sub_start: u32, sub_end: u32) -> Values {
     // SAFETY: the function takes and gives numbers only.
     unsafe { netkat_compute_subrange(alias_start, alias_end, sub_start, sub_end) }.values()
+}
+
+/// The library's version as one number: major * 65,536 + minor * 256 + patch.
+pub(crate) fn version() -> u32 {
+    // SAFETY: the function takes nothing and gives a number.
+    unsafe { netkat_version() }
 }

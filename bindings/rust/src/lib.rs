@@ -96,6 +96,17 @@ pub fn compute_subrange(alias: Range<Field>, sub: Range<Field>) -> Result<Range<
     ffi::compute_subrange(alias.start, alias.end, sub.start, sub.end).map(|(from, to)| from..to)
 }
 
+/// The version of the library that is linked: major, minor, patch. It is the crate's own, unless NETKAT_LIB_DIR names another archive.
+///
+/// ```
+/// let (major, minor, patch) = netkat::library_version();
+/// assert_eq!(format!("{major}.{minor}.{patch}"), env!("CARGO_PKG_VERSION"));
+/// ```
+pub fn library_version() -> (u32, u32, u32) {
+    let version = ffi::version();
+    (version >> 16, version >> 8 & 0xff, version & 0xff)
+}
+
 /// The lowest `width` bits of a value, least significant first. Bits beyond 128 are false.
 ///
 /// ```
