@@ -83,7 +83,7 @@ fn children_can_be_taken() {
 /// The library recurses over a term, whose depth is limited.
 #[test]
 fn deepest_terms() {
-    on_a_stack_of(512, || {
+    on_a_stack_of(256, || {
         let wraps: [fn(Exp) -> Exp; 6] = [
             Expr::star,
             Expr::test_negation,
