@@ -21,7 +21,7 @@ each() {
 
 echo "| policy | term bytes | core bytes | drawn | desugar | for each drawn node | check, for each term byte | test fragment | field count | substitute |"
 echo "|---|---|---|---|---|---|---|---|---|---|"
-for family in access_list first_match tenants wide_test; do
+for family in access_list first_match tenants wide_test lets complement_lets union_lets; do
     for file in $(ls "$terms" | grep "^$family-" | sort -t- -k2 -n); do
         term=$terms/$file
         set -- $("$oracle" once "$term")

@@ -125,6 +125,11 @@ fn wide_test(width: u32) -> Node {
     alias(SRC, 0, width, Node { kind: VARTEST, name: SRC, a: literal(1, 1), ..Node::default() })
 }
 
+/// A test of 30,000 fields below so many Lets of One, each the operand that `over` puts below an operator.
+fn below_lets(levels: u32, over: fn(Node) -> Node) -> Node {
+    (0..levels).fold(wide_test(30_000), |inner, _| over(let_in(FIRST_VARIABLE, node(ONE, vec![]), inner)))
+}
+
 pub fn all() -> Vec<(String, Vec<u8>)> {
     [("access list, 200 entries", access_list(200)), ("first match, 40 rules", first_match(40)), ("tenant isolation", tenants(24))]
         .map(|(name, tree)| (name.to_string(), encoded(&tree)))
@@ -144,7 +149,8 @@ pub fn small_and_lists() -> Vec<(String, Vec<u8>)> {
     .into()
 }
 
-/// The same policies from about 1,000 to about 60,000 drawn nodes, or to the deepest term that is allowed.
+/// The same policies from about 1,000 to about 60,000 drawn nodes, or to the deepest term that is allowed; and one large core below more and
+/// more Lets.
 pub fn growing() -> Vec<(String, Vec<u8>)> {
     let mut all = Vec::new();
     let mut add = |family: &str, size: u32, tree: Node| all.push((format!("{family}-{size}"), encoded(&tree)));
@@ -159,6 +165,11 @@ pub fn growing() -> Vec<(String, Vec<u8>)> {
     }
     for n in [500, 1000, 2000, 4000, 8000, 16000, 30000] {
         add("wide_test", n, wide_test(n));
+    }
+    for n in [0, 30, 60, 126] {
+        add("lets", n, below_lets(n, |inner| inner));
+        add("complement_lets", n, below_lets(n, |inner| node(COMPLEMENT, vec![inner])));
+        add("union_lets", n, below_lets(n, |inner| two(UNION, node(ZERO, vec![]), inner)));
     }
     all
 }
