@@ -1,7 +1,7 @@
 # The C side of the library: its archive, and where it is installed.
 #
 #   make                          builds target/staticlib/libnetkat.a, if it is missing or older than a file of crates/ (needs the Rattle kit)
-#   make install PREFIX=/usr/local    header, archive, netkat.pc and the pages that the header names; DESTDIR is put before every path
+#   make install PREFIX=/usr/local    header, archive, netkat.pc and the pages that the header names, with the example; DESTDIR is put before every path
 #   make uninstall PREFIX=/usr/local
 #   make test                     tests/run.sh
 #   make stack                    the lines on stack of include/netkat.h, measured anew
@@ -17,7 +17,7 @@ CC ?= cc
 
 built := target/staticlib/libnetkat.a
 lib := $(or $(NETKAT_LIB),$(built))
-pages := docs/FORMAT.md docs/REFUSALS.md docs/TERMS.md LICENSE NOTICE
+pages := docs/FORMAT.md docs/REFUSALS.md docs/TERMS.md examples/c/desugar.c LICENSE NOTICE
 # The header has the version: its lines for major, minor and patch, in this order.
 version := $(shell sed -n 's/^.define NETKAT_VERSION_[A-Z]* \([0-9]*\)$$/\1/p' include/netkat.h | paste -sd . -)
 

@@ -9,8 +9,10 @@
  * What the caller owes: the elements are there, as many as the length says, and aligned; `work` and `out` overlap neither each other nor
  * another slice of the same call. `term` and `replacement` may overlap. A pointer may be NULL if its length is 0 (tested).
  *
- * A term is walked with recursion, at most 256 levels deep: "Stack" below says how many bytes that takes. Of the C library the archive
- * needs memset alone.
+ * A term is walked with recursion, at most 256 levels deep: "Stack" below says how many bytes that takes. The archive is for x86-64, needs
+ * memset of the C library alone, and is linked by
+ *
+ *     cc program.c $(pkg-config --cflags --libs netkat)
  *
  * What is said here of answers is proved of the functions for every input; this file itself is not: it declares them by hand. */
 #ifndef NETKAT_H
@@ -32,7 +34,8 @@ extern "C" {
 /* The version of the library that is linked, as NETKAT_VERSION puts it. */
 uint32_t netkat_version(void);
 
-/* Limits of a term: beyond the first three it is refused by 6, 7 and 5; a greater prefix cannot be written. */
+/* Limits of a term: beyond the first three it is refused by 6, 7 and 5; a greater prefix cannot be written, and one above 128 breaks rule 17
+ * or 18. */
 #define NETKAT_MAX_RECORDS 4096
 #define NETKAT_MAX_LEVELS 256
 #define NETKAT_MAX_LITERAL_BITS 128
@@ -46,8 +49,8 @@ uint32_t netkat_version(void);
 /* Desugar: the greatest allowance; the numbers of work memory that an allowance needs, so that 10 is not met; bytes that no core under an
  * allowance exceeds, so that 26 is not met. */
 #define NETKAT_MAX_ALLOWANCE 65535
-#define NETKAT_WORK_LEN(allowance) ((size_t)8 * (allowance) + 8192)
-#define NETKAT_CORE_MAX(allowance) ((size_t)7 * (allowance))
+#define NETKAT_WORK_LEN(allowance) ((size_t)8 * (size_t)(allowance) + 8192)
+#define NETKAT_CORE_MAX(allowance) ((size_t)7 * (size_t)(allowance))
 
 /* Stack: bytes below its caller's frame that are enough for a function, whatever its input. In a thread add what the C library keeps on
  * its stack, for which PTHREAD_STACK_MIN was enough (glibc), thread-local variables, the frames above the call and those of signal
@@ -77,7 +80,7 @@ enum netkat_refusal {
     NETKAT_REFUSAL_WORK_MEMORY = 10, /* work is shorter than NETKAT_WORK_LEN(allowance) */
     /* the rules */
     NETKAT_REFUSAL_UNKNOWN_ALIAS = 11,         /* no LetBitRange around it has this name */
-    NETKAT_REFUSAL_UNBOUND_VARIABLE = 12,      /* no Let around it has this name */
+    NETKAT_REFUSAL_UNBOUND_VARIABLE = 12,      /* no Let and no LetBitRange around it has this name */
     NETKAT_REFUSAL_ALIAS_AS_VARIABLE = 13,     /* a variable of a name that only an alias has */
     NETKAT_REFUSAL_RANGE_END_BELOW_START = 14, /* the range in use ends below its start */
     NETKAT_REFUSAL_LITERAL_TOO_LONG = 15,      /* a literal longer than its alias, or an Exact pattern longer than its range */
@@ -106,7 +109,8 @@ enum netkat_refusal {
     NETKAT_REFUSAL_REPLACEMENT_LEFT_OVER = 38
 };
 
-/* The kinds of records; docs/FORMAT.md says what each has and means. 0 to 15 are those of a core. */
+/* The kinds of records; FORMAT.md says what each has and means. 0 to 15 are those of a core. A VAR_ASSIGN, VAR_TEST or VAR_MATCH uses an
+ * alias; VAR alone uses a variable. */
 enum netkat_kind {
     NETKAT_KIND_ZERO = 0,
     NETKAT_KIND_ONE = 1,
@@ -162,7 +166,7 @@ enum netkat_map {
  *   9, 10, 26 to 28   0
  * Where refusals of several groups apply, that of the group which a function names first is answered. Rules and draws are judged in walking
  * order: a record's children from left to right, then the record itself. */
-typedef struct {
+typedef struct netkat_answer {
     uint32_t number;
     uint32_t place;
     uint32_t first;
@@ -184,6 +188,8 @@ netkat_answer netkat_desugar(const uint8_t *term, size_t term_len, uint32_t allo
 
 /* The term with each occurrence of the variable `name` replaced that does not lie in the body of a Let or LetBitRange of that name, in
  * the front of out. first: its length in bytes.
+ * An occurrence is a Var; the alias of a VarAssign, VarTest or VarMatch is none. Names stay as they are: a name that is free in the
+ * replacement is bound by a Let or LetBitRange around the place where it is put.
  * 1 to 8 by the term's form; 31 to 38 by the replacement's; 27 if the result has more than 4,096 records or more than 256 levels; 26 if
  * out is shorter than the result. On a refusal every byte of out is kept, on success every byte behind the result. */
 netkat_answer netkat_substitute(const uint8_t *term, size_t term_len, uint16_t name, const uint8_t *replacement, size_t replacement_len,

@@ -30,7 +30,7 @@ fi
 # DESTDIR: the files lie below it, and do not speak of it.
 make -s install DESTDIR="$tmp/stage" PREFIX=/opt/netkat > /dev/null
 files='include/netkat.h lib/libnetkat.a lib/pkgconfig/netkat.pc'
-for page in FORMAT.md LICENSE NOTICE REFUSALS.md TERMS.md; do
+for page in FORMAT.md LICENSE NOTICE REFUSALS.md TERMS.md desugar.c; do
     files="$files share/doc/netkat/$page"
 done
 [ "$(cd "$tmp/stage/opt/netkat" && find * -type f | sort | tr '\n' ' ')" = "$files " ] || { echo 'DESTDIR: other files'; exit 1; }
