@@ -29,6 +29,7 @@
 //! | what the core is | [`Core`], [`Node`], [`View`] |
 //! | why there is no answer | [`Refusal`] |
 //! | terms that are bytes already | [`bytes`] |
+//! | the memory that a thread keeps | [`release_memory`] |
 
 #![deny(unsafe_code, missing_docs)]
 
