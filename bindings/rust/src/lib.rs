@@ -34,6 +34,7 @@
 //! | why there is no answer | [`Refusal`], [`Refusal::explain`] |
 //! | how large a policy can be, and what to do with more | [`limits`] |
 //! | terms that are bytes already | [`bytes`] |
+//! | the memory that a thread keeps | [`release_memory`] |
 //!
 //! The origin of the library, and of the names here, is KATch2 (<https://github.com/julesjacobs/KATch2>, MIT), called "the original" on
 //! these pages.

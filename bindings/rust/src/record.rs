@@ -197,22 +197,7 @@ impl Record<Vec<bool>> {
         if map & END != 0 {
             record.end = nonzero(u32::from_le_bytes(bytes.array()?))?;
         }
-        if map & PATTERN != 0 {
-            record.pattern = nonzero(bytes.byte()?)?;
-            if record.pattern > 3 {
-                return Err(5);
-            }
-        }
-        let matches = matches!(record.kind, kind::BIT_RANGE_MATCH | kind::VAR_MATCH);
-        if matches && map & (NUMBER | B) & !map_of_pattern(record.pattern) != 0 {
-            return Err(3);
-        }
-        if map & NUMBER != 0 {
-            record.number = usize::from(nonzero(bytes.byte()?)?);
-            if !matches && record.number > 1 {
-                return Err(5);
-            }
-        }
+        record.read_pattern(map, bytes)?;
         if map & A != 0 {
             record.a = bytes.literal()?;
         }
@@ -220,6 +205,27 @@ impl Record<Vec<bool>> {
             record.b = bytes.literal()?;
         }
         Ok(record)
+    }
+
+    /// Reads the pattern and the number, which for a match depends on the pattern.
+    fn read_pattern(&mut self, map: u8, bytes: &mut Input) -> Result<(), u32> {
+        if map & PATTERN != 0 {
+            self.pattern = nonzero(bytes.byte()?)?;
+            if self.pattern > 3 {
+                return Err(5);
+            }
+        }
+        let matches = matches!(self.kind, kind::BIT_RANGE_MATCH | kind::VAR_MATCH);
+        if matches && map & (NUMBER | B) & !map_of_pattern(self.pattern) != 0 {
+            return Err(3);
+        }
+        if map & NUMBER != 0 {
+            self.number = usize::from(nonzero(bytes.byte()?)?);
+            if !matches && self.number > 1 {
+                return Err(5);
+            }
+        }
+        Ok(())
     }
 }
 

@@ -60,6 +60,31 @@ fn core_that_leans_left() {
     });
 }
 
+/// Trees that are deep at any child, or at two of them in turn.
+#[test]
+fn deep_trees_of_each_shape() {
+    on_a_small_stack(|| {
+        let wraps: [fn(Exp) -> Exp; 9] = [
+            Expr::test_negation,
+            |body| Expr::let_bit_range(1, 0, 4, body),
+            |body| Expr::let_in(1, body, Expr::one()),
+            |body| Expr::let_in(1, Expr::var_test(2, vec![true]), body),
+            |body| Expr::union(body, Expr::dup()),
+            |body| Expr::union(Expr::star(Expr::dup()), body),
+            |body| Expr::if_then_else(body, Expr::star(Expr::one()), Expr::zero()),
+            |body| Expr::if_then_else(Expr::one(), body, Expr::star(Expr::one())),
+            |body| Expr::if_then_else(Expr::star(Expr::one()), Expr::one(), body),
+        ];
+        for (i, first) in wraps.iter().enumerate() {
+            for second in &wraps[i..] {
+                let deep = (0..5_000).fold(Expr::one(), |body, level| if level % 2 == 0 { first(body) } else { second(body) });
+                assert!(deep.clone() == deep);
+                drop(Expr::sequence(deep.clone(), deep));
+            }
+        }
+    });
+}
+
 #[test]
 fn lines_of_a_deep_tree() {
     on_a_small_stack(|| {
