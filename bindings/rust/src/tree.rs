@@ -70,7 +70,8 @@ pub(crate) fn decode(bytes: &[u8]) -> Result<Exp, Refusal> {
 
 /// Appends the bytes of the tree, or gives the refusal that form would give if they could be written.
 pub(crate) fn encode(root: &Expr, bytes: &mut Vec<u8>) -> Result<(), Refusal> {
-    let mut pending = Vec::new();
+    // Room at once for the siblings of most trees: glibc joins all freed boxes where a vector that grew is freed.
+    let mut pending = Vec::with_capacity(if root.is_leaf() { 0 } else { 32 });
     let (mut next, mut level, mut place) = (root, 1, 0);
     loop {
         admit(place, level).and_then(|()| write(next, bytes)).map_err(|number| refusal(number, place))?;
@@ -121,78 +122,38 @@ fn write(node: &Expr, out: &mut Vec<u8>) -> Result<(), u32> {
     }
 }
 
-/// Drops all that is below a node, which keeps leaves as children.
-///
-/// A child cannot be moved out of a node without another in its place, and to move what is in its box is slow. So a grandchild
-/// changes places with a leaf beside its parent; the parent then has only leaves, and is dropped without going deeper. Only where a
-/// node has two children with children one of them is set aside.
-fn drop_below(root: &mut Expr) {
-    let mut aside = Vec::new();
-    drop_deepest(root, &mut aside);
-    while let Some(mut node) = aside.pop() {
-        drop_deepest(&mut node, &mut aside);
-    }
-}
+/// How many levels a drop recurses over. Most trees have fewer, and recursion is the quickest way to free them.
+const RECURSION: u32 = 100;
 
-fn drop_deepest(node: &mut Expr, aside: &mut Vec<Expr>) {
-    loop {
-        match node.children_mut() {
-            [Some(first), Some(second), third] => {
-                set_aside(third, aside);
-                match (first.is_leaf(), second.is_leaf()) {
-                    (true, true) => return,
-                    (true, false) => lift(first, second, aside),
-                    (false, true) => lift(second, first, aside),
-                    (false, false) => set_aside(Some(first), aside),
-                }
-            }
-            [Some(child), ..] if !child.is_leaf() => {
-                let child = std::mem::take(&mut **child);
-                *node = child;
-            }
-            _ => return,
+/// Makes the node a leaf, and frees all that is below it.
+fn clear(node: &mut Expr, levels: u32) {
+    for child in node.children_mut().into_iter().flatten().filter(|child| !child.is_leaf()) {
+        match levels {
+            0 => clear_deep(child),
+            _ => clear(child, levels - 1),
         }
     }
+    *node = Expr::Zero;
 }
 
-/// Drops the parent, whose box becomes a leaf. Of its children with children, one takes the leaf's place.
-#[inline]
-fn lift(leaf: &mut Exp, parent: &mut Exp, aside: &mut Vec<Expr>) {
-    let [first, second, third] = parent.children_mut();
-    let inner = |child: &&mut Exp| !child.is_leaf();
-    let (first, second) = (first.filter(inner), second.filter(inner));
-    set_aside(third, aside);
-    match (first, second) {
-        (Some(first), second) => {
-            set_aside(second, aside);
-            std::mem::swap(leaf, first);
-        }
-        (None, Some(second)) => std::mem::swap(leaf, second),
-        (None, None) => {}
+/// The same without recursion, for what is deeper. A node's children with children are moved out of their boxes before it is dropped.
+#[cold]
+fn clear_deep(node: &mut Expr) {
+    let mut pending = vec![std::mem::take(node)];
+    while let Some(mut node) = pending.pop() {
+        let inner = node.children_mut().into_iter().flatten().filter(|child| !child.is_leaf());
+        pending.extend(inner.map(|child| std::mem::take(&mut **child)));
     }
-    **parent = Expr::Zero;
-}
-
-/// Moves the child out of its box, if it has children.
-#[inline]
-fn set_aside(child: Option<&mut Exp>, aside: &mut Vec<Expr>) {
-    if let Some(child) = child.filter(|child| !child.is_leaf()) {
-        aside.push(std::mem::take(&mut **child));
-    }
-}
-
-#[inline]
-fn has_inner_child(node: &Expr) -> bool {
-    let [first, second, third] = node.children();
-    let inner = |child: &Expr| !child.is_leaf();
-    first.is_some_and(inner) || second.is_some_and(inner) || third.is_some_and(inner)
 }
 
 impl Drop for Expr {
     #[inline]
     fn drop(&mut self) {
-        if !self.is_leaf() && has_inner_child(self) {
-            drop_below(self);
+        if self.is_leaf() {
+            return;
+        }
+        for child in self.children_mut().into_iter().flatten().filter(|child| !child.is_leaf()) {
+            clear(child, RECURSION);
         }
     }
 }
