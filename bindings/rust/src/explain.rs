@@ -138,7 +138,7 @@ impl At<'_> {
         let (Expr::VarMatch(_, pattern) | Expr::BitRangeMatch(_, _, pattern)) = self.node else {
             return too_long("the value", self.literal()?);
         };
-        match pattern {
+        match &**pattern {
             Pattern::Cidr { prefix_len, .. } if *prefix_len > MAX_CIDR_PREFIX => {
                 Some(format!("the CIDR prefix is {}, and {MAX_CIDR_PREFIX} is the limit", count(*prefix_len)))
             }
@@ -232,7 +232,7 @@ impl At<'_> {
             return self.literal_width(kind, bits, &fields, width);
         }
         let (Expr::VarMatch(_, pattern) | Expr::BitRangeMatch(_, _, pattern)) = self.node else { return None };
-        match (kind, pattern) {
+        match (kind, &**pattern) {
             (RefusalKind::LiteralTooLong, Pattern::Exact(bits)) => self.literal_width(kind, bits, &fields, width),
             (RefusalKind::CidrPrefix, Pattern::Cidr { prefix_len, .. }) if *prefix_len > width => {
                 Some(format!("the CIDR prefix is {}, but {}", count(*prefix_len), self.has_fields(&fields, width)))

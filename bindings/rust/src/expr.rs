@@ -89,9 +89,9 @@ pub enum Expr {
     /// `x[start..end] == value`
     BitRangeTest(Field, Field, Vec<bool>),
     /// `x[start..end] ~ pattern`
-    BitRangeMatch(Field, Field, Pattern),
+    BitRangeMatch(Field, Field, Box<Pattern>),
     /// `alias ~ pattern`
-    VarMatch(u16, Pattern),
+    VarMatch(u16, Box<Pattern>),
     /// `a + b`
     Union(Exp, Exp),
     /// `a & b`
@@ -182,12 +182,12 @@ impl Expr {
 
     /// `x[start..end] ~ pattern`
     pub fn bit_range_match(start: Field, end: Field, pattern: Pattern) -> Exp {
-        Box::new(Expr::BitRangeMatch(start, end, pattern))
+        Box::new(Expr::BitRangeMatch(start, end, Box::new(pattern)))
     }
 
     /// `alias ~ pattern`
     pub fn var_match(alias: u16, pattern: Pattern) -> Exp {
-        Box::new(Expr::VarMatch(alias, pattern))
+        Box::new(Expr::VarMatch(alias, Box::new(pattern)))
     }
 
     /// `a + b`
@@ -536,8 +536,8 @@ impl Expr {
             kind::VAR_TEST => Expr::VarTest(record.name, record.a),
             kind::BIT_RANGE_ASSIGN => Expr::BitRangeAssign(record.start, record.end, record.a),
             kind::BIT_RANGE_TEST => Expr::BitRangeTest(record.start, record.end, record.a),
-            kind::BIT_RANGE_MATCH => Expr::BitRangeMatch(record.start, record.end, record.into_pattern()),
-            kind::VAR_MATCH => Expr::VarMatch(record.name, record.into_pattern()),
+            kind::BIT_RANGE_MATCH => Expr::BitRangeMatch(record.start, record.end, Box::new(record.into_pattern())),
+            kind::VAR_MATCH => Expr::VarMatch(record.name, Box::new(record.into_pattern())),
             other => unreachable!("kind {other} in a term"),
         }
     }

@@ -96,7 +96,7 @@ pub(crate) fn encode(root: &Expr, bytes: &mut Vec<u8>) -> Result<(), Refusal> {
 #[inline]
 fn write(node: &Expr, out: &mut Vec<u8>) -> Result<(), u32> {
     match node {
-        Expr::VarMatch(name, pattern) => match pattern {
+        Expr::VarMatch(name, pattern) => match &**pattern {
             Pattern::Exact(a) => Record { name: *name, a: a.as_slice(), ..Record::new(kind::VAR_MATCH) }.write(out),
             _ => Record { name: *name, ..Record::new(kind::VAR_MATCH) }.with_pattern(pattern).write(out),
         },
@@ -125,18 +125,34 @@ fn write(node: &Expr, out: &mut Vec<u8>) -> Result<(), u32> {
 /// How many levels a drop recurses over. Most trees have fewer, and recursion is the quickest way to free them.
 const RECURSION: u32 = 100;
 
+/// Makes the children leaves and frees all that is below them. Leaves cost no call: most nodes are leaves, or have none but leaves.
+macro_rules! clear_children {
+    ($node:expr, $levels:expr) => {
+        match $node.children_mut() {
+            [Some(a), Some(b), c] => {
+                for child in [Some(a), Some(b), c].into_iter().flatten() {
+                    if !child.is_leaf() {
+                        clear(child, $levels);
+                    }
+                }
+            }
+            [Some(a), ..] if !a.is_leaf() => clear(a, $levels),
+            _ => {}
+        }
+    };
+}
+
 /// Makes the node a leaf, and frees all that is below it.
 fn clear(node: &mut Expr, levels: u32) {
-    for child in node.children_mut().into_iter().flatten().filter(|child| !child.is_leaf()) {
-        match levels {
-            0 => clear_deep(child),
-            _ => clear(child, levels - 1),
-        }
+    if levels == 0 {
+        clear_deep(node);
+    } else {
+        clear_children!(node, levels - 1);
     }
     *node = Expr::Zero;
 }
 
-/// The same without recursion, for what is deeper. A node's children with children are moved out of their boxes before it is dropped.
+/// Frees what is below the children, without recursion. A child with children is moved out of its box before its parent is dropped.
 #[cold]
 fn clear_deep(node: &mut Expr) {
     let mut pending = vec![std::mem::take(node)];
@@ -146,14 +162,23 @@ fn clear_deep(node: &mut Expr) {
     }
 }
 
+#[inline]
+fn has_inner_child(node: &Expr) -> bool {
+    let [first, second, third] = node.children();
+    let inner = |child: &Expr| !child.is_leaf();
+    first.is_some_and(inner) || second.is_some_and(inner) || third.is_some_and(inner)
+}
+
+#[inline(never)]
+fn drop_below(node: &mut Expr) {
+    clear_children!(node, RECURSION);
+}
+
 impl Drop for Expr {
     #[inline]
     fn drop(&mut self) {
-        if self.is_leaf() {
-            return;
-        }
-        for child in self.children_mut().into_iter().flatten().filter(|child| !child.is_leaf()) {
-            clear(child, RECURSION);
+        if !self.is_leaf() && has_inner_child(self) {
+            drop_below(self);
         }
     }
 }

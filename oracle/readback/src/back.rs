@@ -53,9 +53,9 @@ pub fn tests_as_matches(policy: &Expr) -> Exp {
     let mut pending = vec![&mut *policy];
     while let Some(node) = pending.pop() {
         match node {
-            Expr::VarTest(name, bits) => *node = Expr::VarMatch(*name, Pattern::Exact(std::mem::take(bits))),
+            Expr::VarTest(name, bits) => *node = *Expr::var_match(*name, Pattern::Exact(std::mem::take(bits))),
             Expr::BitRangeTest(start, end, bits) => {
-                *node = Expr::BitRangeMatch(*start, *end, Pattern::Exact(std::mem::take(bits)))
+                *node = *Expr::bit_range_match(*start, *end, Pattern::Exact(std::mem::take(bits)))
             }
             Expr::Union(a, b)
             | Expr::Intersect(a, b)
