@@ -123,7 +123,7 @@ fn write(node: &Expr, out: &mut Vec<u8>) -> Result<(), u32> {
 }
 
 /// How many levels a drop recurses over. Most trees have fewer, and recursion is the quickest way to free them.
-const RECURSION: u32 = 100;
+const RECURSION: u32 = 64;
 
 /// Makes the children leaves and frees all that is below them. Leaves cost no call: most nodes are leaves, or have none but leaves.
 macro_rules! clear_children {
