@@ -49,7 +49,7 @@ pub fn release_memory() {
 /// assert_eq!(core.root().view(), View::Test(0, false));
 /// ```
 pub fn desugar(term: &Expr) -> Result<Core, Refusal> {
-    with_kept(|desugarer| desugarer.desugar(term).map(|desugared| desugared.core))
+    with_kept(|desugarer| desugarer.core_bytes(term).map(|(core, drawn)| Core::of_library(core, drawn)))
 }
 
 /// The core of a term as an expression: what the original's `desugar` gives, and faster than `desugar(term)?.to_expr()`, as no
@@ -137,10 +137,16 @@ impl Desugarer {
 
     /// The core of a term. Refused by 5 to 7 if the term is beyond the limits, by 9, by a rule (11 to 23), or by 24.
     pub fn desugar(&mut self, term: &Expr) -> Result<Desugared, Refusal> {
+        let (core, drawn) = self.core_bytes(term)?;
+        Ok(Desugared { core: Core::of_library(core, drawn), drawn })
+    }
+
+    /// The bytes of the core of a term, and the drawn total.
+    #[inline]
+    fn core_bytes(&mut self, term: &Expr) -> Result<(&[u8], u32), Refusal> {
         self.term.clear();
         tree::encode(term, &mut self.term)?;
-        let (core, drawn) = self.memory.desugar(&self.term, self.allowance)?;
-        Ok(Desugared { core: Core::of_library(core, drawn), drawn })
+        self.memory.desugar(&self.term, self.allowance)
     }
 
     /// The core of a term as an expression, as [`desugar_to_expr`] gives it. Refused as [`Desugarer::desugar`] is.

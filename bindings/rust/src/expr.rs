@@ -53,7 +53,7 @@ pub type Exp = Box<Expr>;
 /// are half open, literals least significant bit first.
 ///
 /// A tree can be built at any size and depth; the operations refuse one of more than 4,096 nodes or 256 levels. Nothing in this
-/// crate recurses over it, its drop included. The library recurses over its bytes, within those levels.
+/// crate recurses over all its levels, its drop included. The library recurses over its bytes, within those 256.
 ///
 /// Because of the drop, children cannot be moved out by a pattern. Match on a reference, or take a child and leave `Zero` in its
 /// place:

@@ -125,34 +125,26 @@ fn write(node: &Expr, out: &mut Vec<u8>) -> Result<(), u32> {
 /// How many levels a drop recurses over. Most trees have fewer, and recursion is the quickest way to free them.
 const RECURSION: u32 = 64;
 
-/// Makes the children leaves and frees all that is below them. Leaves cost no call: most nodes are leaves, or have none but leaves.
-macro_rules! clear_children {
-    ($node:expr, $levels:expr) => {
-        match $node.children_mut() {
-            [Some(a), Some(b), c] => {
-                for child in [Some(a), Some(b), c].into_iter().flatten() {
-                    if !child.is_leaf() {
-                        clear(child, $levels);
-                    }
-                }
-            }
-            [Some(a), ..] if !a.is_leaf() => clear(a, $levels),
-            _ => {}
+/// Makes the children leaves, and frees all that is below them.
+#[inline(always)]
+fn clear_children(node: &mut Expr, levels: u32) {
+    for child in node.children_mut().into_iter().flatten() {
+        if !child.is_leaf() {
+            clear(child, levels);
         }
-    };
+    }
 }
 
 /// Makes the node a leaf, and frees all that is below it.
 fn clear(node: &mut Expr, levels: u32) {
-    if levels == 0 {
-        clear_deep(node);
-    } else {
-        clear_children!(node, levels - 1);
+    match levels {
+        0 => clear_deep(node),
+        _ => clear_children(node, levels - 1),
     }
     *node = Expr::Zero;
 }
 
-/// Frees what is below the children, without recursion. A child with children is moved out of its box before its parent is dropped.
+/// The same without recursion: children with children are moved out of their boxes before the node is dropped.
 #[cold]
 fn clear_deep(node: &mut Expr) {
     let mut pending = vec![std::mem::take(node)];
@@ -162,6 +154,7 @@ fn clear_deep(node: &mut Expr) {
     }
 }
 
+/// Most nodes are leaves, or have none but leaves below them: these cost no call.
 #[inline]
 fn has_inner_child(node: &Expr) -> bool {
     let [first, second, third] = node.children();
@@ -171,7 +164,7 @@ fn has_inner_child(node: &Expr) -> bool {
 
 #[inline(never)]
 fn drop_below(node: &mut Expr) {
-    clear_children!(node, RECURSION);
+    clear_children(node, RECURSION);
 }
 
 impl Drop for Expr {
