@@ -5,7 +5,7 @@ use std::fmt;
 use crate::debug::{self, Shown};
 use crate::limits::{MAX_LEVELS, MAX_RECORDS};
 use crate::record::{kind, refusal, Input, Record, NAMES};
-use crate::{Exp, Expr, Pattern, Refusal};
+use crate::{Exp, Expr, Field, Pattern, Refusal, Value};
 
 /// Refuses a record by its index and its level, as form does before it reads the record.
 fn admit(place: usize, level: usize) -> Result<(), u32> {
@@ -105,10 +105,8 @@ fn write(node: &Expr, out: &mut Vec<u8>) -> Result<(), u32> {
         }
         Expr::VarAssign(name, bits) => Record { name: *name, a: bits.as_slice(), ..Record::new(kind::VAR_ASSIGN) }.write(out),
         Expr::VarTest(name, bits) => Record { name: *name, a: bits.as_slice(), ..Record::new(kind::VAR_TEST) }.write(out),
-        Expr::Assign(field, value) => {
-            Record { start: *field, number: usize::from(*value), ..Record::new(kind::ASSIGN) }.write(out)
-        }
-        Expr::Test(field, value) => Record { start: *field, number: usize::from(*value), ..Record::new(kind::TEST) }.write(out),
+        Expr::Assign(field, value) => write_atom(kind::ASSIGN, *field, *value, out),
+        Expr::Test(field, value) => write_atom(kind::TEST, *field, *value, out),
         Expr::Let(..) | Expr::LetBitRange(..) | Expr::Var(_) => node.record().write(out),
         Expr::BitRangeAssign(..) | Expr::BitRangeTest(..) => node.record().write(out),
         Expr::Zero => {
@@ -120,6 +118,22 @@ fn write(node: &Expr, out: &mut Vec<u8>) -> Result<(), u32> {
             Ok(())
         }
     }
+}
+
+/// The record of an Assign or Test, in one piece.
+#[inline]
+fn write_atom(kind: u8, field: Field, value: Value, out: &mut Vec<u8>) -> Result<(), u32> {
+    let map = 1 | u8::from(field != 0) << 2 | u8::from(value) << 5;
+    let length = out.len() + usize::from(value);
+    let [a, b, c, d] = field.to_le_bytes();
+    if field == 0 {
+        out.extend_from_slice(&[map, kind, 1]);
+        out.truncate(length + 2);
+    } else {
+        out.extend_from_slice(&[map, kind, a, b, c, d, 1]);
+        out.truncate(length + 6);
+    }
+    Ok(())
 }
 
 /// How many levels a drop recurses over. Most trees have fewer, and recursion is the quickest way to free them.
