@@ -20,7 +20,7 @@ const SOURCES: [&str; 2] = ["crates", "crates.txt"];
 /// The folder, for a project at `root`; or a message that says what to do.
 pub fn folder(root: &Path) -> Result<PathBuf, String> {
     println!("cargo:rerun-if-env-changed=NETKAT_LIB_DIR");
-    let folder = match env::var_os("NETKAT_LIB_DIR") {
+    let folder = match env::var_os("NETKAT_LIB_DIR").filter(|given| !given.is_empty()) {
         Some(given) => given_folder(given.into())?,
         None => project_folder(&root.canonicalize().unwrap_or(root.into()))?,
     };
@@ -30,7 +30,8 @@ pub fn folder(root: &Path) -> Result<PathBuf, String> {
 
 fn given_folder(folder: PathBuf) -> Result<PathBuf, String> {
     if !folder.join(ARCHIVE).is_file() {
-        return Err(format!("NETKAT_LIB_DIR is {}, but there is no {ARCHIVE} in it", folder.display()));
+        let looked_at = std::path::absolute(&folder).unwrap_or(folder);
+        return Err(format!("NETKAT_LIB_DIR leads to {}, but there is no {ARCHIVE} in it", looked_at.display()));
     }
     // The linker runs in another folder, so a relative path must be made absolute here.
     Ok(folder.canonicalize().unwrap_or(folder))

@@ -50,7 +50,8 @@ pub fn bits_of_ipv6(address: Ipv6Addr) -> Vec<bool> {
 /// }
 /// ```
 ///
-/// Text is read by [`str::parse`]; see [`ParsePatternError`] for what it can be.
+/// Text is read by [`str::parse`]; see [`ParsePatternError`] for what it can be. The text that a pattern is written as is that of the original's syntax, which
+/// has no IPv6: such patterns are written as numbers and not read back.
 impl Pattern {
     /// This address alone.
     pub fn ipv4(address: Ipv4Addr) -> Self {

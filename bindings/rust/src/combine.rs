@@ -35,6 +35,26 @@ impl Expr {
 }
 
 impl Core {
+    /// The union of two cores.
+    pub fn union(a: &Core, b: &Core) -> Core {
+        joined(Kind::Union, &a.to_bytes(), &b.to_bytes())
+    }
+
+    /// One core after the other, as it stands. (Desugaring a `;` leaves out a `1` on either side, and that of an if does not.)
+    ///
+    /// ```
+    /// use netkat::{desugar, Core, Expr};
+    ///
+    /// let (test, a, b) = (Expr::test(0, true), Expr::assign(1, true), Expr::assign(2, true));
+    /// let core = |term: &Expr| desugar(term).unwrap();
+    /// let then = Core::sequence(&core(&test), &core(&a));
+    /// let otherwise = Core::sequence(&core(&Expr::test_negation(test.clone())), &core(&b));
+    /// assert_eq!(Core::union(&then, &otherwise), core(&Expr::if_then_else(test, a, b)));
+    /// ```
+    pub fn sequence(a: &Core, b: &Core) -> Core {
+        joined(Kind::Sequence, &a.to_bytes(), &b.to_bytes())
+    }
+
     /// The union of all cores, grouped as [`Expr::union_all`] groups terms; `Zero` of none.
     ///
     /// So the cores of parts become the core of the whole: for terms that keep the rules, `Core::union_all` of their cores is the core of
@@ -47,6 +67,10 @@ impl Core {
     /// let cores = terms.iter().map(|term| desugar(term).unwrap());
     /// assert_eq!(Core::union_all(cores), desugar(&Expr::union_all(terms.clone())).unwrap());
     /// ```
+    ///
+    /// # Panics
+    ///
+    /// If it has more than 4,294,967,295 nodes; so do [`Core::union`] and [`Core::sequence`].
     pub fn union_all(cores: impl IntoIterator<Item = Core>) -> Core {
         let operator = [1, Kind::Union.number()];
         let union = |a: Vec<u8>, b: Vec<u8>| [&operator[..], &a, &b].concat();
@@ -55,6 +79,10 @@ impl Core {
         };
         Core::from_bytes(&bytes).expect("the bytes of a Union and of cores")
     }
+}
+
+fn joined(operator: Kind, a: &[u8], b: &[u8]) -> Core {
+    Core::from_bytes(&[&[1, operator.number()], a, b].concat()).expect("the bytes of an operator and of cores")
 }
 
 /// Joins neighbours, then the joined neighbours, until one is left.

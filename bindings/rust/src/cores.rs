@@ -55,6 +55,7 @@ pub struct Core {
 
 /// A node of a [`Core`] without its children.
 #[derive(Clone, Copy, Debug, PartialEq, Eq, Hash)]
+#[non_exhaustive]
 pub struct CoreRecord {
     /// The kind, which says how many children there are.
     pub kind: Kind,
@@ -213,7 +214,8 @@ impl From<&Core> for Exp {
     }
 }
 
-/// Writes the tree as `derive(Debug)` would for an enum with the cases of [`View`](crate::View).
+/// Writes the tree on one line, as `derive(Debug)` would for an enum with the cases of [`View`](crate::View); with `{:#?}` a line for each node, indented
+/// down to level 40.
 impl fmt::Debug for Core {
     fn fmt(&self, f: &mut fmt::Formatter<'_>) -> fmt::Result {
         debug::tree(self.root(), f)

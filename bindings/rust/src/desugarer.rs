@@ -99,6 +99,7 @@ pub struct Desugarer {
 
 /// A core, and what it took to make it.
 #[derive(Clone, Debug, PartialEq, Eq)]
+#[non_exhaustive]
 pub struct Desugared {
     /// The core.
     pub core: Core,
@@ -108,6 +109,7 @@ pub struct Desugared {
 
 /// The bytes of a core, and what it took to make it.
 #[derive(Clone, Copy, Debug, PartialEq, Eq)]
+#[non_exhaustive]
 pub struct DesugaredBytes<'a> {
     /// The core's bytes, in the memory of the [`Desugarer`].
     pub core: &'a [u8],
@@ -144,15 +146,23 @@ impl Desugarer {
     /// The bytes of the core of a term, and the drawn total.
     #[inline]
     fn core_bytes(&mut self, term: &Expr) -> Result<(&[u8], u32), Refusal> {
-        self.term.clear();
-        tree::encode(term, &mut self.term)?;
+        self.encode(term)?;
         self.memory.desugar(&self.term, self.allowance)
+    }
+
+    /// The bytes of the term, unless the allowance is refused: that comes before the form.
+    #[inline]
+    fn encode(&mut self, term: &Expr) -> Result<(), Refusal> {
+        if !(1..=Self::MAX_ALLOWANCE).contains(&self.allowance) {
+            return Err(Refusal { number: 9, place: 0 });
+        }
+        self.term.clear();
+        tree::encode(term, &mut self.term)
     }
 
     /// The core of a term as an expression, as [`desugar_to_expr`] gives it. Refused as [`Desugarer::desugar`] is.
     pub fn desugar_to_expr(&mut self, term: &Expr) -> Result<Exp, Refusal> {
-        self.term.clear();
-        tree::encode(term, &mut self.term)?;
+        self.encode(term)?;
         let (core, _) = self.memory.desugar(&self.term, self.allowance)?;
         slots::decode(core, &mut self.slots).expect("the library writes cores of good form");
         Ok(slots::to_expr(&self.slots, &mut self.complete))

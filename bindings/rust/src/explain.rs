@@ -47,8 +47,10 @@ impl Refusal {
         }
         let outline = Outline::of(policy);
         let place = self.place as usize;
-        let Some(spot) = outline.spots.get(place) else {
-            return format!("{self}\n  the policy given here has no record {place}: it is not the one that was refused");
+        // A tree beyond the limits is refused by them and by nothing else.
+        let too_large = matches!(self.number, 11..=25) && outline.spots.len() > MAX_RECORDS;
+        let Some(spot) = outline.spots.get(place).filter(|_| !too_large) else {
+            return format!("{self}\n  the policy given here has no record {place}, or is beyond the limits: it is not the one that was refused");
         };
         let at = At { outline: &outline, names, place, node: spot.node };
         let part = at.part(spot.node);
@@ -303,7 +305,7 @@ impl At<'_> {
         match Desugarer::new().desugar(policy) {
             Ok(desugared) => format!("\n  the policy keeps all rules: an allowance of {} is enough", grouped(desugared.drawn)),
             Err(_) => format!(
-                "\n  the policy keeps all rules, but the greatest allowance, {}, is not enough: desugar it in parts",
+                "\n  the policy keeps all rules, but the greatest allowance, {}, is not enough: make its ranges narrower, or desugar it in parts",
                 grouped(Desugarer::MAX_ALLOWANCE)
             ),
         }

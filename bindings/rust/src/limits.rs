@@ -17,7 +17,8 @@
 //!
 //! A union of rules that is built one by one gets a level for each, and 256 levels are soon used up.
 //! [`Expr::union_all`](crate::Expr::union_all) builds it balanced, and the limit on expressions is the next to be met: a rule `dst ~ 10.1.0.0/16 ;
-//! x32 := 1` has three, the union one more, so that a policy has room for about a thousand.
+//! x32 := 1` has three, the union one more, so that a policy has room for about a thousand; one with source, destination and port has seven. Where rules
+//! have ranges, the allowance may be spent before.
 //!
 //! # Thousands of rules
 //!
@@ -33,15 +34,29 @@
 //! use std::net::Ipv4Addr;
 //! use netkat::{desugar, Core, Desugarer, Exp, Expr, Names, Pattern, Refusal};
 //!
-//! /// The core of the union of all rules with the bindings around it; or the first rule of a refused slice, and the refusal.
-//! fn desugar_rules(rules: &[Exp], size: usize, bind: impl Fn(Exp) -> Exp) -> Result<Core, (usize, Refusal)> {
-//!     let mut desugarer = Desugarer::new();
-//!     let mut cores = Vec::new();
-//!     for (i, slice) in rules.chunks(size).enumerate() {
-//!         let policy = bind(Expr::union_all(slice.iter().cloned()));
-//!         let desugared = desugarer.desugar(&policy).map_err(|refusal| (i * size, refusal))?;
-//!         cores.push(desugared.core);
+//! /// The cores of slices of the rules, with the bindings around each. A slice that is too large is halved.
+//! fn desugar_slices(
+//!     desugarer: &mut Desugarer,
+//!     rules: &[Exp],
+//!     bind: &impl Fn(Exp) -> Exp,
+//!     cores: &mut Vec<Core>,
+//! ) -> Result<(), Refusal> {
+//!     match desugarer.desugar(&bind(Expr::union_all(rules.iter().cloned()))) {
+//!         Ok(desugared) => cores.push(desugared.core),
+//!         Err(refusal) if matches!(refusal.number, 6 | 24) && rules.len() > 1 => {
+//!             let (front, back) = rules.split_at(rules.len().next_power_of_two() / 2);
+//!             desugar_slices(desugarer, front, bind, cores)?;
+//!             desugar_slices(desugarer, back, bind, cores)?;
+//!         }
+//!         Err(refusal) => return Err(refusal),
 //!     }
+//!     Ok(())
+//! }
+//!
+//! /// The core of the union of all rules.
+//! fn desugar_rules(rules: &[Exp], bind: impl Fn(Exp) -> Exp) -> Result<Core, Refusal> {
+//!     let mut cores = Vec::new();
+//!     desugar_slices(&mut Desugarer::new(), rules, &bind, &mut cores)?;
 //!     Ok(Core::union_all(cores))
 //! }
 //!
@@ -57,19 +72,26 @@
 //!
 //! // All at once they are too many.
 //! assert_eq!(desugar(&bind(Expr::union_all(rules.clone()))).unwrap_err().number, 6);
-//! let core = desugar_rules(&rules, 512, bind).unwrap();
+//! let core = desugar_rules(&rules, bind).unwrap();
 //! assert_eq!(core.len(), 5_000 * (31 + 2) + 4_999);
 //!
-//! // Of a list that fits, the slices make the same core as the whole.
+//! // Slices of a list that fits make the same core as the whole, node by node: their size is a power of two, and both unions join neighbours.
 //! let whole = desugar(&bind(Expr::union_all(rules[..1_000].to_vec()))).unwrap();
-//! assert_eq!(desugar_rules(&rules[..1_000], 512, bind).unwrap(), whole);
+//! let slices = rules[..1_000].chunks(256).map(|slice| desugar(&bind(Expr::union_all(slice.to_vec()))).unwrap());
+//! assert_eq!(Core::union_all(slices), whole);
 //! ```
 //!
-//! The last line holds of the tree, node by node, since the size of the slices is a power of two and both unions join neighbours. With
-//! other sizes the unions are grouped in another way, and the meaning is the same.
+//! With slices of other sizes the unions are grouped in another way, and the meaning is the same. A refusal by a rule has its place in the slice: keep count of
+//! the rules before it to say which one it is.
 //!
-//! What holds of `+` holds of `&`, `^`, `-`, `U`, `~`, `*` and `X` as well. Of `;` it holds but for a `1`, which is left out. It does not hold below `!` or
-//! in the condition of an if, which change the core that they are given; a first-match list of nested ifs cannot be cut in this way.
+//! What holds of `+` holds of `&`, `^`, `-`, `U`, `~`, `*` and `X` as well. Of `;` it holds but for a `1`, which is left out. It does not hold below `!`, which
+//! changes the core that it is given.
+//!
+//! # First match
+//!
+//! A list `if a then x else if b then y else ..` has a level for each rule. The core of `if c then t else e` is `c' ; t' + d' ; e'`, where `c'`, `t'` and `e'` are the
+//! cores of its parts, `d'` is that of `!c`, and no `1` is left out. So it can be cut at an else: desugar the rest by itself, and join by
+//! [`Core::sequence`](crate::Core::sequence) and [`Core::union`](crate::Core::union).
 
 /// The most expressions of a policy: its records.
 pub const MAX_RECORDS: usize = 4_096;

@@ -1,4 +1,5 @@
 use std::fmt;
+use std::hash::{Hash, Hasher};
 
 use crate::debug::{self, Shown};
 use crate::record::NAMES;
@@ -7,7 +8,9 @@ use crate::{Core, CoreRecord, Exp, Field, Kind, Value};
 
 /// A node of a [`Core`]. It is a handle of two words and an index, to be copied freely.
 ///
-/// Two nodes are equal if the trees below them are, wherever they stand.
+/// Two nodes are equal if the trees below them are, wherever they stand, and then have the same hash. To compare, to hash and to copy a tree, and to find its
+/// end ([`Node::nodes`], [`Node::to_core`]), costs as much as the tree is large: who needs it of every node of a chain goes from the
+/// last node to the first and keeps what is below, as shown for [`Core`].
 ///
 /// ```
 /// use netkat::{desugar, Expr, View};
@@ -179,7 +182,15 @@ impl PartialEq for Node<'_> {
 
 impl Eq for Node<'_> {}
 
-/// Writes the tree below the node as `derive(Debug)` would.
+impl Hash for Node<'_> {
+    fn hash<H: Hasher>(&self, state: &mut H) {
+        for node in self.nodes() {
+            node.record().hash(state);
+        }
+    }
+}
+
+/// Writes the tree below the node, as for [`Core`].
 impl fmt::Debug for Node<'_> {
     fn fmt(&self, f: &mut fmt::Formatter<'_>) -> fmt::Result {
         debug::tree(*self, f)

@@ -1,4 +1,4 @@
-//! Terms without recursion: a tree can be built at any depth.
+//! Terms, which can be built at any depth: no stack grows with it.
 
 use std::fmt;
 
@@ -206,7 +206,7 @@ impl PartialEq for Expr {
 
 impl Eq for Expr {}
 
-/// Writes the tree as `derive(Debug)` would.
+/// Writes the tree on one line, as `derive(Debug)` would; with `{:#?}` a line for each node, indented down to level 40.
 impl fmt::Debug for Expr {
     fn fmt(&self, f: &mut fmt::Formatter<'_>) -> fmt::Result {
         debug::tree(self, f)

@@ -3,6 +3,9 @@
 #[allow(dead_code)] // Terms are for other tests.
 mod common;
 
+use std::collections::hash_map::DefaultHasher;
+use std::hash::{Hash, Hasher};
+
 use common::Random;
 use netkat::{bytes, desugar, Core, Exp, Expr, Kind, Node, Refusal, View};
 
@@ -130,6 +133,12 @@ fn views_children_and_indexes() {
     }
 }
 
+fn hash(node: Node) -> u64 {
+    let mut hasher = DefaultHasher::new();
+    node.hash(&mut hasher);
+    hasher.finish()
+}
+
 #[test]
 fn equality() {
     let cores: Vec<Core> = core_exprs(3, 120).map(|expr| Core::from_expr(&expr).unwrap()).collect();
@@ -138,6 +147,7 @@ fn equality() {
             let same = a.to_bytes() == b.to_bytes();
             assert_eq!(a == b, same);
             assert_eq!(a.root() == b.root(), same);
+            assert_eq!(hash(a.root()) == hash(b.root()), same);
             assert_eq!(a.root().view() == b.root().view(), same);
             assert_eq!(a.to_expr() == b.to_expr(), same);
         }

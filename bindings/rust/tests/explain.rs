@@ -220,7 +220,7 @@ fn spent_allowances() {
         spent(65_535, &wide),
         format!(
             "{here} (alias `a`, x[0..1000000000], has 1,000,000,000 fields) (record 1, refusal 24)\n  in: a ~ 1\n  \
-             the policy keeps all rules, but the greatest allowance, 65,535, is not enough: desugar it in parts"
+             the policy keeps all rules, but the greatest allowance, 65,535, is not enough: make its ranges narrower, or desugar it in parts"
         )
     );
     let broken = Expr::union(Expr::bit_range_test(0, 4, bits(1, 4)), Expr::test_negation(Expr::dup()));
@@ -313,7 +313,9 @@ fn another_policy() {
     let refusal = Refusal { number: 17, place: 9 };
     assert_eq!(
         refusal.explain(&policies[5], &names()),
-        format!("{refusal}\n  the policy given here has no record 9: it is not the one that was refused")
+        format!(
+            "{refusal}\n  the policy given here has no record 9, or is beyond the limits: it is not the one that was refused"
+        )
     );
 }
 

@@ -127,6 +127,9 @@ fn allowance() {
     for wrong in [0, 65_536, u32::MAX] {
         assert_eq!(refused(Desugarer::with_allowance(wrong).desugar(&Expr::One)), (9, 0));
     }
+    let too_long = Expr::var_test(1, bits(0, 200));
+    assert_eq!(refused(Desugarer::with_allowance(0).desugar(&too_long)), (9, 0), "the allowance comes before the form");
+    assert_eq!(refused(Desugarer::with_allowance(0).desugar_to_expr(&too_long)), (9, 0));
     let term = Expr::bit_range_test(0, 2, bits(1, 2));
     assert_eq!(refused(Desugarer::with_allowance(2).desugar(&term)), (24, 0));
     assert_eq!(Desugarer::with_allowance(3).desugar(&term).unwrap().drawn, 3);
