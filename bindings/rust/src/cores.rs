@@ -92,13 +92,6 @@ impl Core {
         Self::of_bytes(bytes, bytes.len() / 4)
     }
 
-    /// The core that the library wrote, whose steps drew so many nodes.
-    pub(crate) fn of_library(bytes: &[u8], drawn: u32) -> Self {
-        // A core has no more nodes than were drawn. An operator of two bytes with two Zeros of one is the shortest tree.
-        let nodes = (drawn as usize).min(bytes.len() * 2 / 3 + 1);
-        Self::of_bytes(bytes, nodes).expect("the library writes cores of good form")
-    }
-
     /// The core of the bytes, which has about so many nodes.
     fn of_bytes(bytes: &[u8], nodes: usize) -> Result<Self, Refusal> {
         let mut core = Core { slots: Vec::with_capacity(nodes) };

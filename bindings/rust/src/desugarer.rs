@@ -49,7 +49,9 @@ pub fn release_memory() {
 /// assert_eq!(core.root().view(), View::Test(0, false));
 /// ```
 pub fn desugar(term: &Expr) -> Result<Core, Refusal> {
-    with_kept(|desugarer| desugarer.core_bytes(term).map(|(core, drawn)| Core::of_library(core, drawn)))
+    let mut slots = Vec::new();
+    with_kept(|desugarer| desugarer.desugar_into(term, &mut slots))?;
+    Ok(Core::of_slots(slots))
 }
 
 /// The core of a term as an expression: what the original's `desugar` gives, and faster than `desugar(term)?.to_expr()`, as no
@@ -139,15 +141,21 @@ impl Desugarer {
 
     /// The core of a term. Refused by 5 to 7 if the term is beyond the limits, by 9, by a rule (11 to 23), or by 24.
     pub fn desugar(&mut self, term: &Expr) -> Result<Desugared, Refusal> {
-        let (core, drawn) = self.core_bytes(term)?;
-        Ok(Desugared { core: Core::of_library(core, drawn), drawn })
+        let mut slots = Vec::new();
+        let drawn = self.desugar_into(term, &mut slots)?;
+        Ok(Desugared { core: Core::of_slots(slots), drawn })
     }
 
-    /// The bytes of the core of a term, and the drawn total.
+    /// Replaces `slots` by those of the term's core. Gives the drawn total.
     #[inline]
-    fn core_bytes(&mut self, term: &Expr) -> Result<(&[u8], u32), Refusal> {
+    fn desugar_into(&mut self, term: &Expr, slots: &mut Vec<Slot>) -> Result<u32, Refusal> {
         self.encode(term)?;
-        self.memory.desugar(&self.term, self.allowance)
+        let (core, drawn) = self.memory.desugar(&self.term, self.allowance)?;
+        // A core has no more nodes than were drawn. An operator of two bytes with two Zeros of one is the shortest tree.
+        slots.reserve_exact((drawn as usize).min(core.len() * 2 / 3 + 1));
+        slots::decode(core, slots).expect("the library writes cores of good form");
+        slots.shrink_to_fit();
+        Ok(drawn)
     }
 
     /// The bytes of the term, unless the allowance is refused: that comes before the form.

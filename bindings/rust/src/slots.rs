@@ -225,34 +225,57 @@ pub(crate) fn encode(slots: &[Slot]) -> Vec<u8> {
 
 /// The boxed tree of the slots of a whole tree. `complete` is empty before and after.
 pub(crate) fn to_expr(slots: &[Slot], complete: &mut Vec<Exp>) -> Exp {
-    // From the last node to the first: a node's children are complete before it, its first child on top.
-    for slot in slots.iter().rev() {
-        let node = to_node(slot, || complete.pop().expect("the nodes of a whole tree"));
-        complete.push(node);
+    // From the last node, which is a leaf, to the first: a node's children are made before it. `tree` is what was made last.
+    let (last, mut rest) = slots.split_last().expect("a core has a node");
+    let mut tree = leaf(last);
+    while let Some((slot, front)) = rest.split_last() {
+        rest = front;
+        match (slot.kind.arity(), front.split_last()) {
+            // The operator before a leaf has it as its first child, and as its second what was made before. Most of a core is such
+            // pairs.
+            (0, Some((operator, front))) if operator.kind.arity() == 2 => {
+                tree = binary(operator, leaf(slot), tree);
+                rest = front;
+            }
+            (0, _) => complete.push(std::mem::replace(&mut tree, leaf(slot))),
+            (1, _) => tree = unary(slot, tree),
+            _ => tree = binary(slot, tree, complete.pop().expect("the nodes of a whole tree")),
+        }
     }
-    complete.pop().expect("a core has a node")
+    tree
 }
 
-/// The node of a slot. `child` gives its children, left to right.
 #[inline]
-fn to_node(slot: &Slot, mut child: impl FnMut() -> Exp) -> Exp {
+fn leaf(slot: &Slot) -> Exp {
     match slot.kind {
-        Kind::Zero => Expr::zero(),
+        Kind::Test => Expr::test(slot.number, slot.value),
+        Kind::Assign => Expr::assign(slot.number, slot.value),
         Kind::One => Expr::one(),
         Kind::Top => Expr::top(),
         Kind::Dup => Expr::dup(),
         Kind::End => Expr::end(),
-        Kind::Assign => Expr::assign(slot.number, slot.value),
-        Kind::Test => Expr::test(slot.number, slot.value),
-        Kind::Union => Expr::union(child(), child()),
-        Kind::Intersect => Expr::intersect(child(), child()),
-        Kind::Xor => Expr::xor(child(), child()),
-        Kind::Difference => Expr::difference(child(), child()),
-        Kind::Sequence => Expr::sequence(child(), child()),
-        Kind::LtlUntil => Expr::ltl_until(child(), child()),
-        Kind::Complement => Expr::complement(child()),
-        Kind::Star => Expr::star(child()),
-        Kind::LtlNext => Expr::ltl_next(child()),
+        _ => Expr::zero(),
+    }
+}
+
+#[inline]
+fn unary(slot: &Slot, child: Exp) -> Exp {
+    match slot.kind {
+        Kind::Complement => Expr::complement(child),
+        Kind::Star => Expr::star(child),
+        _ => Expr::ltl_next(child),
+    }
+}
+
+#[inline]
+fn binary(slot: &Slot, first: Exp, second: Exp) -> Exp {
+    match slot.kind {
+        Kind::Union => Expr::union(first, second),
+        Kind::Intersect => Expr::intersect(first, second),
+        Kind::Xor => Expr::xor(first, second),
+        Kind::Difference => Expr::difference(first, second),
+        Kind::Sequence => Expr::sequence(first, second),
+        _ => Expr::ltl_until(first, second),
     }
 }
 
