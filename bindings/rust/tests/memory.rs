@@ -5,17 +5,8 @@ mod common;
 use std::cell::RefCell;
 use std::thread;
 
-use common::Random;
+use common::terms;
 use netkat::{bits, bytes, desugar, desugar_to_expr, release_memory, Desugarer, Exp, Expr};
-
-fn terms(seed: u64, count: usize) -> impl Iterator<Item = Exp> {
-    let mut random = Random::new(seed);
-    std::iter::repeat_with(move || {
-        let depth = 1 + random.below(7);
-        random.term(depth)
-    })
-    .take(count)
-}
 
 /// All ways give the answer of a fresh desugarer with the greatest allowance.
 fn same_answers(term: &Expr, kept: &mut Desugarer) -> bool {

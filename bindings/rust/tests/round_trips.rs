@@ -2,18 +2,8 @@
 
 mod common;
 
-use common::Random;
+use common::{terms, Random};
 use netkat::{bytes, Core, Desugarer, Exp, Expr, Refusal};
-
-/// Terms within the limits.
-fn terms(seed: u64, count: usize) -> impl Iterator<Item = Exp> {
-    let mut random = Random::new(seed);
-    std::iter::repeat_with(move || {
-        let depth = 1 + random.below(7);
-        random.term(depth)
-    })
-    .take(count)
-}
 
 #[test]
 fn terms_come_back() {

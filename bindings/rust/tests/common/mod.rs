@@ -2,6 +2,17 @@
 
 use netkat::{Exp, Expr, Pattern};
 
+/// Random terms within the limits.
+#[allow(dead_code)] // Not every test has a use for it.
+pub fn terms(seed: u64, count: usize) -> impl Iterator<Item = Exp> {
+    let mut random = Random::new(seed);
+    std::iter::repeat_with(move || {
+        let depth = 1 + random.below(7);
+        random.term(depth)
+    })
+    .take(count)
+}
+
 pub struct Random(u64);
 
 impl Random {
