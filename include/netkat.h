@@ -34,8 +34,8 @@ extern "C" {
 /* The version of the library that is linked, as NETKAT_VERSION puts it. */
 uint32_t netkat_version(void);
 
-/* Limits of a term: beyond the first three it is refused by 6, 7 and 5; a greater prefix cannot be written, and one above 128 breaks rule 17
- * or 18. */
+/* Limits of a term: beyond the first three it is refused by 6, 7 and 5; a greater prefix cannot be written, and one above 128 breaks rule
+ * 17 or 18. */
 #define NETKAT_MAX_RECORDS 4096
 #define NETKAT_MAX_LEVELS 256
 #define NETKAT_MAX_LITERAL_BITS 128
