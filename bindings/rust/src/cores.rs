@@ -50,7 +50,15 @@ use crate::{Exp, Expr, Field, Kind, Refusal, Value};
 /// ```
 #[derive(Clone, PartialEq, Eq, Hash)]
 pub struct Core {
-    slots: Vec<Slot>,
+    slots: Slots,
+}
+
+/// A core of one node needs no memory of its own.
+#[derive(Clone, PartialEq, Eq, Hash)]
+enum Slots {
+    One(Slot),
+    /// More than one.
+    More(Vec<Slot>),
 }
 
 /// A node of a [`Core`] without its children.
@@ -74,7 +82,23 @@ impl CoreRecord {
 
 impl Core {
     pub(crate) fn of_slots(slots: Vec<Slot>) -> Self {
-        Core { slots }
+        match slots[..] {
+            [slot] => Self::of_slot(slot),
+            _ => Core { slots: Slots::More(slots) },
+        }
+    }
+
+    #[inline]
+    pub(crate) fn of_slot(slot: Slot) -> Self {
+        Core { slots: Slots::One(slot) }
+    }
+
+    #[inline]
+    fn slots(&self) -> &[Slot] {
+        match &self.slots {
+            Slots::One(slot) => std::slice::from_ref(slot),
+            Slots::More(slots) => slots,
+        }
     }
 
     /// The core of the bytes. Refused by 1 to 5 and 8 as terms are, and by 2 for a kind above 15. There is no limit on depth; 6 is
@@ -92,12 +116,19 @@ impl Core {
         Self::of_bytes(bytes, bytes.len() / 4)
     }
 
+    /// The core that the library wrote, whose steps drew so many nodes.
+    pub(crate) fn of_library(bytes: &[u8], drawn: u32) -> Self {
+        // A core has no more nodes than were drawn. An operator of two bytes with two Zeros of one is the shortest tree.
+        let nodes = (drawn as usize).min(bytes.len() * 2 / 3 + 1);
+        Self::of_bytes(bytes, nodes).expect("the library writes cores of good form")
+    }
+
     /// The core of the bytes, which has about so many nodes.
     fn of_bytes(bytes: &[u8], nodes: usize) -> Result<Self, Refusal> {
-        let mut core = Core { slots: Vec::with_capacity(nodes) };
-        slots::decode(bytes, &mut core.slots)?;
-        core.slots.shrink_to_fit();
-        Ok(core)
+        let mut slots = Vec::with_capacity(nodes);
+        slots::decode(bytes, &mut slots)?;
+        slots.shrink_to_fit();
+        Ok(Self::of_slots(slots))
     }
 
     /// The bytes of the core.
@@ -109,7 +140,7 @@ impl Core {
     /// assert_eq!(core.to_bytes(), [0x25, 6, 3, 0, 0, 0, 1]);
     /// ```
     pub fn to_bytes(&self) -> Vec<u8> {
-        slots::encode(&self.slots)
+        slots::encode(self.slots())
     }
 
     /// The core that an expression is, if it has only kinds of a core. Refused by 2 at the first node of another kind, for which
@@ -137,17 +168,17 @@ impl Core {
     /// assert_eq!(desugar(&policy).unwrap().to_expr(), Expr::test(0, false));
     /// ```
     pub fn to_expr(&self) -> Exp {
-        slots::to_expr(&self.slots, &mut Vec::new())
+        slots::to_expr(self.slots(), &mut Vec::new())
     }
 
     /// The root.
     pub fn root(&self) -> Node<'_> {
-        Node::new(&self.slots, 0)
+        Node::new(self.slots(), 0)
     }
 
     /// The node of an index in prefix order, if there is one.
     pub fn node(&self, index: usize) -> Option<Node<'_>> {
-        (index < self.len()).then(|| Node::new(&self.slots, index))
+        (index < self.len()).then(|| Node::new(self.slots(), index))
     }
 
     /// All nodes in prefix order, the order of the records.
@@ -160,7 +191,8 @@ impl Core {
     /// assert_eq!(tests.count(), 2);
     /// ```
     pub fn nodes(&self) -> impl ExactSizeIterator<Item = Node<'_>> + DoubleEndedIterator {
-        (0..self.len()).map(|index| Node::new(&self.slots, index))
+        let slots = self.slots();
+        (0..slots.len()).map(move |index| Node::new(slots, index))
     }
 
     /// Kind, field and value of all nodes in prefix order, as a solver would store them. This is the whole core: a kind says how many
@@ -174,20 +206,20 @@ impl Core {
     /// assert_eq!(records, [(Kind::Intersect, 0, false), (Kind::Test, 0, true), (Kind::Test, 1, false)]);
     /// ```
     pub fn records(&self) -> impl ExactSizeIterator<Item = CoreRecord> + DoubleEndedIterator + '_ {
-        self.slots.iter().map(CoreRecord::of)
+        self.slots().iter().map(CoreRecord::of)
     }
 
     /// The number of nodes, at least 1.
     #[allow(clippy::len_without_is_empty)] // A core is never empty.
     pub fn len(&self) -> usize {
-        self.slots.len()
+        self.slots().len()
     }
 }
 
 /// `Zero`
 impl Default for Core {
     fn default() -> Self {
-        Core { slots: vec![Slot::new(Kind::Zero)] }
+        Core::of_slot(Slot::new(Kind::Zero))
     }
 }
 

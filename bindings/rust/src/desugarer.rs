@@ -49,9 +49,9 @@ pub fn release_memory() {
 /// assert_eq!(core.root().view(), View::Test(0, false));
 /// ```
 pub fn desugar(term: &Expr) -> Result<Core, Refusal> {
-    let mut slots = Vec::new();
-    with_kept(|desugarer| desugarer.desugar_into(term, &mut slots))?;
-    Ok(Core::of_slots(slots))
+    let mut core = Core::default();
+    with_kept(|desugarer| desugarer.desugar_into(term, &mut core))?;
+    Ok(core)
 }
 
 /// The core of a term as an expression: what the original's `desugar` gives, and faster than `desugar(term)?.to_expr()`, as no
@@ -141,20 +141,20 @@ impl Desugarer {
 
     /// The core of a term. Refused by 5 to 7 if the term is beyond the limits, by 9, by a rule (11 to 23), or by 24.
     pub fn desugar(&mut self, term: &Expr) -> Result<Desugared, Refusal> {
-        let mut slots = Vec::new();
-        let drawn = self.desugar_into(term, &mut slots)?;
-        Ok(Desugared { core: Core::of_slots(slots), drawn })
+        let mut core = Core::default();
+        let drawn = self.desugar_into(term, &mut core)?;
+        Ok(Desugared { core, drawn })
     }
 
-    /// Replaces `slots` by those of the term's core. Gives the drawn total.
+    /// Replaces `core` by that of the term. Gives the drawn total.
     #[inline]
-    fn desugar_into(&mut self, term: &Expr, slots: &mut Vec<Slot>) -> Result<u32, Refusal> {
+    fn desugar_into(&mut self, term: &Expr, core: &mut Core) -> Result<u32, Refusal> {
         self.encode(term)?;
-        let (core, drawn) = self.memory.desugar(&self.term, self.allowance)?;
-        // A core has no more nodes than were drawn. An operator of two bytes with two Zeros of one is the shortest tree.
-        slots.reserve_exact((drawn as usize).min(core.len() * 2 / 3 + 1));
-        slots::decode(core, slots).expect("the library writes cores of good form");
-        slots.shrink_to_fit();
+        let (bytes, drawn) = self.memory.desugar(&self.term, self.allowance)?;
+        *core = match drawn {
+            1 => Core::of_slot(slots::leaf_of_bytes(bytes).expect("the library writes cores of good form")),
+            _ => Core::of_library(bytes, drawn),
+        };
         Ok(drawn)
     }
 

@@ -128,6 +128,22 @@ pub(crate) fn decode(bytes: &[u8], slots: &mut Vec<Slot>) -> Result<(), Refusal>
     Ok(())
 }
 
+/// The slot of bytes that are one leaf of good form. Bytes that were just written are read in the pieces that they were written in: the
+/// processor waits for others.
+#[inline]
+pub(crate) fn leaf_of_bytes(bytes: &[u8]) -> Option<Slot> {
+    let (kind, value, number) = match *bytes {
+        [0x25, kind, a, b, c, d, 1] => (kind, true, u32::from_le_bytes([a, b, c, d])),
+        [0x05, kind, a, b, c, d] => (kind, false, u32::from_le_bytes([a, b, c, d])),
+        [0x21, kind, 1] => (kind, true, 0),
+        [0x01, kind] => (kind, false, 0),
+        [0x00] => (kind::ZERO, false, 0),
+        _ => return None,
+    };
+    let slot = Slot { kind: Kind::from_number(kind)?, value, number };
+    (slot.kind.arity() == 0).then_some(slot)
+}
+
 /// The slot and the length of the record of good form that the bytes begin with.
 fn slot_of_bytes(bytes: &[u8]) -> Option<(Slot, usize)> {
     let word = first_word(bytes);

@@ -70,8 +70,11 @@ pub(crate) fn decode(bytes: &[u8]) -> Result<Exp, Refusal> {
 
 /// Appends the bytes of the tree, or gives the refusal that form would give if they could be written.
 pub(crate) fn encode(root: &Expr, bytes: &mut Vec<u8>) -> Result<(), Refusal> {
+    if root.is_leaf() {
+        return write(root, bytes).map_err(|number| refusal(number, 0));
+    }
     // Room at once for the siblings of most trees: glibc joins all freed boxes where a vector that grew is freed.
-    let mut pending = Vec::with_capacity(if root.is_leaf() { 0 } else { 32 });
+    let mut pending = Vec::with_capacity(32);
     let (mut next, mut level, mut place) = (root, 1, 0);
     loop {
         admit(place, level).and_then(|()| write(next, bytes)).map_err(|number| refusal(number, place))?;
@@ -120,17 +123,17 @@ fn write(node: &Expr, out: &mut Vec<u8>) -> Result<(), u32> {
     }
 }
 
-/// The record of an Assign or Test, in one piece.
+/// The record of an Assign or Test, in one store: the processor waits where a load goes over two.
 #[inline]
 fn write_atom(kind: u8, field: Field, value: Value, out: &mut Vec<u8>) -> Result<(), u32> {
     let map = 1 | u8::from(field != 0) << 2 | u8::from(value) << 5;
     let length = out.len() + usize::from(value);
     let [a, b, c, d] = field.to_le_bytes();
     if field == 0 {
-        out.extend_from_slice(&[map, kind, 1]);
+        out.extend_from_slice(&[map, kind, 1, 0]);
         out.truncate(length + 2);
     } else {
-        out.extend_from_slice(&[map, kind, a, b, c, d, 1]);
+        out.extend_from_slice(&[map, kind, a, b, c, d, 1, 0]);
         out.truncate(length + 6);
     }
     Ok(())
