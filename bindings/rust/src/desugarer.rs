@@ -152,7 +152,7 @@ impl Desugarer {
         self.encode(term)?;
         let (bytes, drawn) = self.memory.desugar(&self.term, self.allowance)?;
         *core = match drawn {
-            1 => Core::of_slot(slots::leaf_of_bytes(bytes).expect("the library writes cores of good form")),
+            1 => Core::of_slot(leaf(bytes)),
             _ => Core::of_library(bytes, drawn),
         };
         Ok(drawn)
@@ -171,8 +171,11 @@ impl Desugarer {
     /// The core of a term as an expression, as [`desugar_to_expr`] gives it. Refused as [`Desugarer::desugar`] is.
     pub fn desugar_to_expr(&mut self, term: &Expr) -> Result<Exp, Refusal> {
         self.encode(term)?;
-        let (core, _) = self.memory.desugar(&self.term, self.allowance)?;
-        slots::decode(core, &mut self.slots).expect("the library writes cores of good form");
+        let (bytes, drawn) = self.memory.desugar(&self.term, self.allowance)?;
+        if drawn == 1 {
+            return Ok(leaf(bytes).to_expr());
+        }
+        slots::decode(bytes, &mut self.slots).expect(GOOD_FORM);
         Ok(slots::to_expr(&self.slots, &mut self.complete))
     }
 
@@ -190,6 +193,14 @@ impl Desugarer {
         let (core, drawn) = self.memory.desugar(term, self.allowance)?;
         Ok(DesugaredBytes { core, drawn })
     }
+}
+
+const GOOD_FORM: &str = "the library writes cores of good form";
+
+/// The only node of a core for which one node was drawn.
+#[inline]
+fn leaf(bytes: &[u8]) -> Slot {
+    slots::leaf_of_bytes(bytes).expect(GOOD_FORM)
 }
 
 impl Default for Desugarer {

@@ -19,6 +19,20 @@ impl Slot {
         Slot { kind, value: false, number: 0 }
     }
 
+    /// The expression that a leaf is.
+    #[inline]
+    pub fn to_expr(self) -> Exp {
+        match self.kind {
+            Kind::Test => Expr::test(self.number, self.value),
+            Kind::Assign => Expr::assign(self.number, self.value),
+            Kind::One => Expr::one(),
+            Kind::Top => Expr::top(),
+            Kind::Dup => Expr::dup(),
+            Kind::End => Expr::end(),
+            _ => Expr::zero(),
+        }
+    }
+
     /// Whether the nodes are equal, children aside.
     pub fn same_head(&self, other: &Slot) -> bool {
         self.kind == other.kind && self.value == other.value && (self.kind.arity() == 2 || self.number == other.number)
@@ -243,35 +257,22 @@ pub(crate) fn encode(slots: &[Slot]) -> Vec<u8> {
 pub(crate) fn to_expr(slots: &[Slot], complete: &mut Vec<Exp>) -> Exp {
     // From the last node, which is a leaf, to the first: a node's children are made before it. `tree` is what was made last.
     let (last, mut rest) = slots.split_last().expect("a core has a node");
-    let mut tree = leaf(last);
+    let mut tree = last.to_expr();
     while let Some((slot, front)) = rest.split_last() {
         rest = front;
         match (slot.kind.arity(), front.split_last()) {
             // The operator before a leaf has it as its first child, and as its second what was made before. Most of a core is such
             // pairs.
             (0, Some((operator, front))) if operator.kind.arity() == 2 => {
-                tree = binary(operator, leaf(slot), tree);
+                tree = binary(operator, slot.to_expr(), tree);
                 rest = front;
             }
-            (0, _) => complete.push(std::mem::replace(&mut tree, leaf(slot))),
+            (0, _) => complete.push(std::mem::replace(&mut tree, slot.to_expr())),
             (1, _) => tree = unary(slot, tree),
             _ => tree = binary(slot, tree, complete.pop().expect("the nodes of a whole tree")),
         }
     }
     tree
-}
-
-#[inline]
-fn leaf(slot: &Slot) -> Exp {
-    match slot.kind {
-        Kind::Test => Expr::test(slot.number, slot.value),
-        Kind::Assign => Expr::assign(slot.number, slot.value),
-        Kind::One => Expr::one(),
-        Kind::Top => Expr::top(),
-        Kind::Dup => Expr::dup(),
-        Kind::End => Expr::end(),
-        _ => Expr::zero(),
-    }
 }
 
 #[inline]
