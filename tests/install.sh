@@ -28,13 +28,13 @@ else
 fi
 
 # DESTDIR: the files lie below it, and do not speak of it.
-make -s install DESTDIR="$tmp/stage" PREFIX=/opt/netkat > /dev/null
+make -s install DESTDIR="$tmp/stage" PREFIX=/netkat > /dev/null
 files='include/netkat.h lib/libnetkat.a lib/pkgconfig/netkat.pc'
 for page in FORMAT.md LICENSE NOTICE REFUSALS.md TERMS.md desugar.c; do
     files="$files share/doc/netkat/$page"
 done
-[ "$(cd "$tmp/stage/opt/netkat" && find * -type f | sort | tr '\n' ' ')" = "$files " ] || { echo 'DESTDIR: other files'; exit 1; }
-grep -qx 'prefix=/opt/netkat' "$tmp/stage/opt/netkat/lib/pkgconfig/netkat.pc" || { echo 'DESTDIR: another prefix'; exit 1; }
-make -s uninstall DESTDIR="$tmp/stage" PREFIX=/opt/netkat > /dev/null
+[ "$(cd "$tmp/stage/netkat" && find * -type f | sort | tr '\n' ' ')" = "$files " ] || { echo 'DESTDIR: other files'; exit 1; }
+grep -qx 'prefix=/netkat' "$tmp/stage/netkat/lib/pkgconfig/netkat.pc" || { echo 'DESTDIR: another prefix'; exit 1; }
+make -s uninstall DESTDIR="$tmp/stage" PREFIX=/netkat > /dev/null
 [ -z "$(find "$tmp/stage" -type f)" ] || { echo 'uninstall left files'; exit 1; }
 echo 'install: the example builds with what is installed, and prints what it should'

@@ -14,20 +14,20 @@ use crate::{Exp, Expr, Field, Kind, Refusal, Value};
 /// ```
 /// use netkat::{desugar, Core, Expr, Node, View};
 ///
-/// /// How many tests stand on the way from the root to the deepest leaf, along first children.
-/// fn tests_on_the_left(core: &Core) -> usize {
+/// /// Whether the first leaf is a test.
+/// fn begins_with_a_test(core: &Core) -> bool {
 ///     let mut node = core.root();
 ///     loop {
 ///         match node.view() {
 ///             View::Union(a, _) | View::Intersect(a, _) | View::Sequence(a, _) => node = a,
 ///             View::Star(a) => node = a,
-///             View::Test(_, _) => return 1,
-///             _ => return 0,
+///             View::Test(_, _) => return true,
+///             _ => return false,
 ///         }
 ///     }
 /// }
 /// let policy = Expr::star(Expr::sequence(Expr::test(0, true), Expr::assign(1, true)));
-/// assert_eq!(tests_on_the_left(&desugar(&policy).unwrap()), 1);
+/// assert!(begins_with_a_test(&desugar(&policy).unwrap()));
 /// ```
 ///
 /// A core can be as deep as it is large, some ten thousand levels, so a function that calls itself on the children needs a stack to
@@ -120,7 +120,7 @@ impl Core {
     pub(crate) fn of_library(bytes: &[u8], drawn: u32) -> Self {
         // A core has no more nodes than were drawn. An operator of two bytes with two Zeros of one is the shortest tree.
         let nodes = (drawn as usize).min(bytes.len() * 2 / 3 + 1);
-        Self::of_bytes(bytes, nodes).expect("the library writes cores of good form")
+        Self::of_bytes(bytes, nodes).expect(slots::GOOD_FORM)
     }
 
     /// The core of the bytes, which has about so many nodes.
@@ -239,8 +239,8 @@ impl From<&Core> for Exp {
     }
 }
 
-/// Writes the tree on one line, as `derive(Debug)` would for an enum with the cases of [`View`](crate::View); with `{:#?}` a line for each node, indented
-/// down to level 40.
+/// Writes the tree on one line, as `derive(Debug)` would for an enum with the cases of [`View`](crate::View); with `{:#?}` a line for
+/// each node, indented down to level 40.
 impl fmt::Debug for Core {
     fn fmt(&self, f: &mut fmt::Formatter<'_>) -> fmt::Result {
         debug::tree(self.root(), f)

@@ -6,8 +6,8 @@ use crate::slots::{self, Slot};
 use crate::{tree, Core, Exp, Expr, Refusal};
 
 thread_local! {
-    /// What the free functions work with. To lend a small allowance first and the full one on refusal 24 was tried: it saves no
-    /// resident memory on small policies, and on others costs a second pass of form, a third of the time at 3,500 nodes.
+    /// What the free functions work with. To lend a small allowance first and the full one on refusal 24 was tried: it saves 1 KiB of
+    /// resident memory and no time on small policies, and on others costs a second pass of form, a third of the time at 3,500 nodes.
     static KEPT: RefCell<Option<Desugarer>> = const { RefCell::new(None) };
 }
 
@@ -20,8 +20,8 @@ pub(crate) fn with_kept<T>(mut call: impl FnMut(&mut Desugarer) -> T) -> T {
 /// Frees the memory that [`desugar()`], [`desugar_to_expr`] and [`bytes::desugar`](crate::bytes::desugar) keep for this thread. The
 /// next call allocates it anew; a thread that ends frees it by itself.
 ///
-/// It is lent to the library without being cleared, so that pages which no policy needed take no memory: on Linux 4 KiB are
-/// resident after a policy of some nodes, 75 KiB after one of 3,500, 0.8 MB after one of 43,000.
+/// It is lent to the library without being cleared, so that pages which no policy needed take no memory: on Linux 4 to
+/// 8 KiB are resident after a policy of some nodes, some 70 KiB after one of 3,500, 0.7 to 0.8 MB after one of 43,000.
 ///
 /// ```
 /// use netkat::{desugar, release_memory, Expr};
@@ -175,7 +175,7 @@ impl Desugarer {
         if drawn == 1 {
             return Ok(leaf(bytes).to_expr());
         }
-        slots::decode(bytes, &mut self.slots).expect(GOOD_FORM);
+        slots::decode(bytes, &mut self.slots).expect(slots::GOOD_FORM);
         Ok(slots::to_expr(&self.slots, &mut self.complete))
     }
 
@@ -195,12 +195,10 @@ impl Desugarer {
     }
 }
 
-const GOOD_FORM: &str = "the library writes cores of good form";
-
 /// The only node of a core for which one node was drawn.
 #[inline]
 fn leaf(bytes: &[u8]) -> Slot {
-    slots::leaf_of_bytes(bytes).expect(GOOD_FORM)
+    slots::leaf_of_bytes(bytes).expect(slots::GOOD_FORM)
 }
 
 impl Default for Desugarer {

@@ -27,7 +27,8 @@
 //! - The core of `a + b` is the union of the core of `a` and the core of `b`.
 //! - A let leaves nothing in the core but what its body becomes. So the core of `let .. in a + b` is the union of the cores of `let .. in a`
 //!   and `let .. in b`: repeat the lets and aliases that stand around the list around each slice.
-//! - An expression that breaks a rule in the whole breaks it in its slice, and the other way round; the place then counts in the slice.
+//! - An expression that breaks a rule in the whole breaks it in its slice, and the other way round; the place then counts in the slice. Of several
+//!   faults another one may be answered first, as the form of each slice comes before its rules.
 //! - Each slice has an allowance of its own. A definition that is repeated is drawn in each slice anew.
 //!
 //! ```

@@ -48,6 +48,9 @@ struct Builder<'a> {
     complete: bool,
 }
 
+/// Why bytes of the library are not refused.
+pub(crate) const GOOD_FORM: &str = "the library writes cores of good form";
+
 /// Ends the list of pending operators; no index.
 const NONE: u32 = u32::MAX;
 
