@@ -82,7 +82,7 @@ literal-decides : (w : Where) (a : Bits) (n at : ℕ) → Decides (LiteralSuits 
 literal-decides (Direct s e) a n at = need-eq (length a) n 16 at
 literal-decides (Alias x) a n at = need-le (length a) n 15 at
 
-pattern-decides : (m : Pattern) (n at : ℕ) → Decides (PatternSuits m n) tt (patternRule m n at)
+pub pattern-decides : (m : Pattern) (n at : ℕ) → Decides (PatternSuits m n) tt (patternRule m n at)
 pattern-decides (Exact a) n at = need-le (length a) n 15 at
 pattern-decides (Cidr a k) n at = after _ (need-le k n 17 at) (need-eq (length a) n 18 at)
 pattern-decides (Wildcard a m) n at = need-iff _ 19 at (and-iff _ _ (eqb-is (length a) n) (eqb-is (length m) n))

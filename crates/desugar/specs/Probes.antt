@@ -1,6 +1,6 @@
--- The starred probes of document 01 ("Probes"), as one list, and what no starred probe shows.
+-- The starred probes of document 01 ("Probes"), as one list, and what no starred probe shows; then those of document 02's changes.
 use mathlib.Core.{Bool.Bool, Bool.true, Bool.false, List.List, List.[], List._∷_}
-use Prim.Native.Nat.{ℕ, zero, suc}
+use Prim.Native.Nat.{ℕ, zero, suc, _+_, _-_, _^_}
 use Rattle.literals.specs.{Bits.Bits, Bits.bitsOf, Patterns.Exact, Patterns.Cidr, Patterns.Wildcard, Patterns.IpRange}
 use Rattle.expr.specs.{Answers.Answer, Answers.ok, Answers.refuse, Form.encode, Form.encodeCore, Terms.Alias, Terms.Assigns, Terms.Binary, Terms.Core, Terms.Difference, Terms.Direct, Terms.Dup, Terms.Expr, Terms.IfThenElse, Terms.Intersect, Terms.Let, Terms.LetBitRange, Terms.Matches, Terms.One, Terms.Plain, Terms.Ranged, Terms.Sequence, Terms.Star, Terms.Test, Terms.TestNegation, Terms.Tests, Terms.Unary, Terms.Union, Terms.Use, Terms.Var, Terms.Xor, Terms.Zero, Terms.leaf, Terms.size, Terms.two}
 use Rattle.desugar.specs.{Desugar.desugarBytes, Desugar.workFor}
@@ -148,7 +148,7 @@ refusals =
     ∷ malformed (3 ∷ 1 ∷ []) 3 0
     -- "Then fields in map order: 1 bytes lacking, 4 zero, 5 out of range.": a name; a Test's value; a pattern; a literal's length and spare bits
     ∷ malformed (3 ∷ 20 ∷ 1 ∷ []) 1 0 ∷ malformed (3 ∷ 20 ∷ 0 ∷ 0 ∷ []) 4 0 ∷ malformed (33 ∷ 6 ∷ 2 ∷ []) 5 0 ∷ malformed (17 ∷ 25 ∷ 4 ∷ []) 5 0
-    ∷ malformed (65 ∷ 24 ∷ 0 ∷ []) 4 0 ∷ malformed (65 ∷ 24 ∷ 129 ∷ []) 5 0 ∷ malformed (65 ∷ 24 ∷ 1 ∷ 2 ∷ []) 4 0
+    ∷ malformed (65 ∷ 24 ∷ 0 ∷ []) 4 0 ∷ malformed (65 ∷ 24 ∷ 193 ∷ []) 5 0 ∷ malformed (65 ∷ 24 ∷ 192 ∷ []) 1 0 ∷ malformed (65 ∷ 24 ∷ 1 ∷ 2 ∷ []) 4 0
     -- "Bits 5 and 7 are judged there (3) right after bit 4's turn"
     ∷ malformed (33 ∷ 25 ∷ []) 3 0 ∷ malformed (145 ∷ 25 ∷ 1 ∷ []) 3 0
     -- "Before a record: 6 more than 4,096 records, 7 depth over 256 (the root is at 1), 1 bytes used up.": 6 and 7 with a record there and without
@@ -186,4 +186,44 @@ refusals =
     ∷ spends (Binary Union (Plain One) (Plain One)) 2 24 0
     -- "26 encoded core longer than the answer buffer"
     ∷ record { term = 1 ∷ 1 ∷ []; allowance = 1; work = workFor 1; room = 1; number = 26; place = 0 }
+    ∷ []
+
+-- ## Change 6 of document 02: "Literals may be up to 192 bits, so refusal 5 begins at 193."
+
+-- the n fields from s on are 1
+abbrev pub allOnes : (s n : ℕ) → Core
+allOnes s zero = leaf One
+allOnes s (suc zero) = test s true
+allOnes s (suc (suc n)) = both (test s true) (allOnes (suc s) (suc n))
+
+-- the greatest value of n bits
+abbrev pub highest : ℕ → ℕ
+highest n = 2 ^ n - 1
+
+abbrev pub longer : List Probe
+longer =
+    -- "A label stack of six 32-bit words has 192 bits and our users write it as one literal.": from field 32 on, and as an alias
+    gives (Ranged (Direct 32 224) (Tests (literal (highest 192) 192))) (allOnes 32 192) 383 383
+    ∷ gives (LetBitRange 1 32 224 (Ranged (Alias 1) (Matches (Exact (literal (highest 192) 192))))) (allOnes 32 192) 383 383
+    -- its two highest bits by a CIDR; its bits 0, 128 and 191 by a wildcard
+    ∷ gives (Ranged (Direct 0 192) (Matches (Cidr (literal (2 ^ 191) 192) 2))) (both (test 190 false) (test 191 true)) 3 3
+    ∷ gives (Ranged (Direct 0 192) (Matches (Wildcard (literal (2 ^ 191 + 1) 192) (literal (highest 192 - (2 ^ 191 + 2 ^ 128 + 1)) 192))))
+    (both (test 0 true) (both (test 128 false) (test 191 true))) 5 5
+    -- "Range patterns keep their 128-bit field limit."
+    ∷ gives (Ranged (Direct 0 128) (Matches (IpRange (literal 0 128) (literal (highest 128) 128)))) (leaf One) 1 1
+    ∷ []
+
+-- and what is refused there
+abbrev pub tooLong : List Refused
+tooLong =
+    -- "refusal 5 begins at 193": literal A, and literal B
+    refuses (Ranged (Direct 0 193) (Tests (literal 1 193))) 5 0 ∷ refuses (Ranged (Direct 0 192) (Matches (Wildcard (literal 1 192) (literal 1 193)))) 5 0
+    -- "Everything that takes or compares a literal has a new limit to live with": 15 to 19 with literals of 192 bits
+    ∷ refuses (aliased 0 191 (Tests (literal 1 192))) 15 1 ∷ refuses (Ranged (Direct 0 191) (Matches (Exact (literal 1 192)))) 15 0
+    ∷ refuses (Ranged (Direct 0 193) (Assigns (literal 1 192))) 16 0
+    ∷ refuses (Ranged (Direct 0 192) (Matches (Cidr (literal 1 192) 193))) 17 0 ∷ refuses (Ranged (Direct 0 191) (Matches (Cidr (literal 1 192) 191))) 18 0
+    ∷ refuses (Ranged (Direct 0 192) (Matches (Wildcard (literal 1 192) (literal 1 191)))) 19 0
+    -- "Range patterns keep their 128-bit field limit.": a field of 129 bits, and a bound of 129 bits
+    ∷ refuses (Ranged (Direct 0 129) (Matches (IpRange (literal 0 129) (literal 1 129)))) 20 0
+    ∷ refuses (Ranged (Direct 0 128) (Matches (IpRange (literal 0 128) (literal 1 129)))) 20 0
     ∷ []

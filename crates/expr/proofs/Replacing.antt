@@ -140,11 +140,11 @@ number-long n v = go (stands v)
     go true = omega (arith, length-bytes-of n v)
     go false = omega arith
 
-literal-long : (a : Bits) → length a ≤ maxLiteral → length (writeLiteral a) ≤ 17
+literal-long : (a : Bits) → length a ≤ maxLiteral → length (writeLiteral a) ≤ 25
 literal-long [] h = omega arith
 literal-long (b ∷ a) h =
     let n : ℕ = bytesFor (length (b ∷ a)) in
-    let l : n ≤ 16 = omega arith in
+    let l : n ≤ 24 = omega arith in
     omega (arith, ap length (pack-is n (b ∷ a)), length-bytes-of n (valueOf (b ∷ a)))
 
 record-long : (h : Record) → RecordFits h → length (writeRecord h) ≤ 64

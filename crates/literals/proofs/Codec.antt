@@ -1,9 +1,12 @@
 -- Reading gives back what was written, and reads nothing else.
 use mathlib.Core.Path.{_≡_, refl, sym, ap, subst, _∙_}
+use mathlib.Core.Logic.{_⊎_, inl, inr, _↔_}
 use mathlib.Core.Bool.{Bool, true, false, not, false≢true, true≢false}
 use mathlib.Core.List.{List, [], _∷_, _++_}
 use Prim.Native.Nat.{ℕ, zero, suc, _+_, _-_, _*_, _^_, _≤_, _<_}
 use native.Mathlib.Omega.{arith}
+use native.Mathlib.Decide.{decLt}
+use borrow.Author.Tests.{ne-eqb, lt-leb}
 use lib.Dec.{leb, eqb}
 use lib.ListN.{length, take, drop, replicate, take-append-drop}
 use lib.Seq.{take-append-seam, drop-append-seam, length-take-le}
@@ -220,3 +223,37 @@ literal-codec = record { forward = literal-forward; back = literal-back }
 
 pub literal-only : (bs : List ℕ) (a : Bits) (rest : List ℕ) → Bytes bs → literal bs ≡ got a rest → Wrote Written writeLiteral bs a rest
 literal-only bs a rest b e = codec-only literal-codec bs a rest b e
+
+-- ## The limit
+
+-- behind its length a literal is refused by 1 or 4 alone
+spare-refused : (b : Bool) (a : Bits) (rest : List ℕ) → goOn (ask b 4 rest) (λ _. give a) ≡ fault 5 → ⊥
+spare-refused true a rest e = let z : _≡_ {A = ℕ} 0 1 = cc in absurd (omega arith)
+spare-refused false a rest e = let z : _≡_ {A = ℕ} 4 5 = cc in absurd (omega arith)
+
+bits-refused : (n : ℕ) (x : Read (List ℕ)) → (x ≡ fault 1) ⊎ ((cs : List ℕ) × (rest : List ℕ) × (x ≡ got cs rest))
+    → goOn x (λ cs. ask (allFalse (drop n (unpack cs))) 4 >>= λ _. give (take n (unpack cs))) ≡ fault 5 → ⊥
+bits-refused n (fault r) (inl l) e = let z : _≡_ {A = ℕ} 1 5 = cc in absurd (omega arith)
+bits-refused n (fault r) (inr l) e = let k = l .2 in let z : _≡_ {A = ℕ} 0 1 = cc in absurd (omega arith)
+bits-refused n (got cs rest) l e = spare-refused (allFalse (drop n (unpack cs))) (take n (unpack cs)) rest e
+
+chunk-refused : (n : ℕ) (bs : List ℕ) → (chunk n bs ≡ fault 1) ⊎ ((cs : List ℕ) × (rest : List ℕ) × (chunk n bs ≡ got cs rest))
+chunk-refused n bs = go (decLt (length bs) n)
+  where
+    go : Dec (length bs < n) → (chunk n bs ≡ fault 1) ⊎ ((cs : List ℕ) × (rest : List ℕ) × (chunk n bs ≡ got cs rest))
+    go (yes l) = inl (chunk-lacks n bs l)
+    go (no l) = inr (take n bs, drop n bs, chunk-take n bs (omega arith))
+
+within-limit : (n : ℕ) (bs : List ℕ) → n ≤ maxLiteral → literal (n ∷ bs) ≡ fault 5 → ⊥
+within-limit zero bs small e = let z : _≡_ {A = ℕ} 4 5 = cc in absurd (omega arith)
+within-limit (suc n) bs small e =
+    bits-refused (suc n) (chunk (bytesFor (suc n)) bs) (chunk-refused (bytesFor (suc n)) bs)
+    (rw (ne-eqb (suc n) 0 (λ z. omega arith), leb-is (suc n) maxLiteral .1 small) at e)
+
+-- a length byte is refused by 5 exactly if it is above the limit, whatever follows it
+pub literal-limit : (n : ℕ) (bs : List ℕ) → (literal (n ∷ bs) ≡ fault 5) ↔ (maxLiteral < n)
+literal-limit n bs = (go (decLt maxLiteral n), λ long. rw (ne-eqb n 0 (λ z. omega arith), lt-leb n maxLiteral long) refl)
+  where
+    go : Dec (maxLiteral < n) → literal (n ∷ bs) ≡ fault 5 → maxLiteral < n
+    go (yes long) e = long
+    go (no small) e = absurd (within-limit n bs (omega arith) e)

@@ -43,9 +43,9 @@ chunk (suc n) = byte >>= λ b. chunk n >>= λ bs. give (b ∷ bs)
 abbrev pub nonzero : ℕ → Reads ℕ
 nonzero n = chunk n >>= λ bs. ask (not (eqb (numberOf bs) 0)) 4 >>= λ _. give (numberOf bs)
 
--- "Term bytes": "over 128 is 5". The longest literal
+-- "Term bytes": "over 128 is 5", and by Change 6 "Literals may be up to 192 bits, so refusal 5 begins at 193". The longest literal
 abbrev pub maxLiteral : ℕ
-maxLiteral = 128
+maxLiteral = 192
 
 -- the bytes that n bits take
 abbrev pub bytesFor : ℕ → ℕ
@@ -56,7 +56,7 @@ allFalse [] = true
 allFalse (b ∷ a) = not b && allFalse a
 
 -- "Term bytes": "a length byte (0 is 4, over 128 is 5, both before its bits are looked for), then bits, least significant
--- first, spare high bits zero (else 4)"
+-- first, spare high bits zero (else 4)". Change 6 moves 5 to lengths over 192
 abbrev pub literal : Reads Bits
 literal =
     byte >>= λ n.

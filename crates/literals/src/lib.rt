@@ -8,7 +8,7 @@ ghost use Rattle.literals.specs.Bits.{valueOf, unpack};
 ghost use Rattle.literals.specs.Results.{LiteralFound, orderOf, comparedOf};
 
 // The longest literal, in bits.
-pub const MAX_LITERAL: usize = 128;
+pub const MAX_LITERAL: usize = 192;
 
 // A literal that was read: the byte at which its bits begin, how many they are, and the byte behind it.
 pub struct Literal {

@@ -15,6 +15,7 @@ pub mod Forms
 pub mod HighestField
 pub mod Declines
 pub mod Demands
+pub mod LongLiterals
 pub mod Theorems
 pub mod HostBounds
 pub mod HostAnswers

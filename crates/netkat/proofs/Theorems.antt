@@ -5,24 +5,28 @@ use mathlib.Core.Path.{_≡_, refl, subst}
 use mathlib.Core.Logic.{_↔_}
 use mathlib.Core.Bool.{Bool, true, false}
 use mathlib.Core.List.{List, [], _∷_, map, List·Memᴰ}
-use Prim.Native.Nat.{ℕ, _≤_, _<_}
+use Prim.Native.Nat.{ℕ, _+_, _^_, _≤_, _<_}
 use native.Mathlib.Nat.{zero-add}
 use lib.ListN.{length}
-use Rattle.literals.specs.Bits.{Bytes}
+use Rattle.literals.specs.Bits.{Bits, Bytes, valueOf}
+use Rattle.literals.specs.Patterns.{IpRange}
+use Rattle.literals.specs.Reading.{fault, literal}
+use Rattle.literals.proofs.Codec.{literal-limit}
 use Rattle.expr.specs.Answers.{ok, refuse}
 use Rattle.expr.specs.Form.{Within, decode, encode}
 use Rattle.expr.specs.Operations.{fieldsBytes, substituteBytes}
-use Rattle.expr.specs.Terms.{Core, Expr, Plain, Star, Test, Unary, Var, records}
+use Rattle.expr.specs.Terms.{Core, Direct, Expr, Plain, Ranged, Star, Test, Unary, Use, Var, records}
 use Rattle.expr.proofs.FormTheorem.{bytes-of-encode, decode-encode, form-exact}
 use Rattle.desugar.specs.Bindings.{Env, computeSubrange}
 use Rattle.desugar.specs.Claims.{Limit}
 use Rattle.desugar.specs.Desugar.{desugarBytes}
 use Rattle.desugar.specs.Packets.{Others, oneStep}
-use Rattle.desugar.specs.Probes.{answered, computed, further, refusals, refusedBy, starred, stars, stated}
+use Rattle.desugar.specs.Probes.{answered, computed, further, longer, refusals, refusedBy, starred, stars, stated, tooLong}
+use Rattle.desugar.specs.Rules.{patternRule}
 use Rattle.desugar.proofs.Limit.{limit}
-use Rattle.desugar.proofs.Probes.{further-probes, refused-probes, starred-probes}
+use Rattle.desugar.proofs.Probes.{further-probes, longer-probes, refused-probes, starred-probes, too-long-probes}
 use Rattle.netkat.specs.Check.{RulesHold, check, checkBytes, firstFailure, testSort}
-use Rattle.netkat.specs.Claims.{AtPoint, Desugared, Desugars, Good, Inside, PointAt, Refusal}
+use Rattle.netkat.specs.Claims.{AtPoint, Desugared, Desugars, Good, Inside, PointAt, Refusal, TakesWhole}
 use Rattle.netkat.specs.Demands.{Declined, Demand1, Demand2, Demand3}
 use Rattle.netkat.specs.Entry.{Answers, Call}
 use Rattle.netkat.specs.Points.{Point, Scope, definitions, desugarAt, walk}
@@ -30,6 +34,7 @@ use Rattle.netkat.specs.declared.Answer.{Answer as HostAnswer}
 use Rattle.netkat.proofs.AtPoint.{desugar-at-answers, desugar-at-means, desugar-at-succeeds}
 use Rattle.netkat.proofs.Demands.{each-call, never-zero, points-and-whole, trees-and-forms}
 use Rattle.netkat.proofs.Inside.{each-record, inside-points, walk-inside, walk-length}
+use Rattle.netkat.proofs.LongLiterals.{good-over, range-kept, range-wide}
 use Rattle.netkat.proofs.Numbers.{Numbered, desugar-at-numbers}
 use Rattle.netkat.proofs.Rules.{behind-rule, none-fails, rules-append}
 use Rattle.netkat.proofs.Whole.{check-bytes, desugar-bytes, desugared-bytes, refused-bytes}
@@ -170,3 +175,29 @@ pub other-refusals-theorem : (fieldsBytes (encode (Plain (Test 4294967295 true))
     × (substituteBytes (encode (Unary Star (Var 1))) 1 (stars 255 (0 ∷ [])) 0 ≡ refuse 27 0)
     × (substituteBytes (encode (Var 1)) 1 (1 ∷ 1 ∷ []) 1 ≡ refuse 26 0)
 other-refusals-theorem = (refl, refl, refl, refl, refl, refl, refl)
+
+-- ## Change 6 of document 02: literals of up to 192 bits
+
+-- "Literals may be up to 192 bits, so refusal 5 begins at 193.": of a length byte, whatever follows it
+pub literal-limit-theorem : (n : ℕ) (bs : List ℕ) → (literal (n ∷ bs) ≡ fault 5) ↔ (193 ≤ n)
+literal-limit-theorem = literal-limit
+
+-- "A label stack of six 32-bit words has 192 bits and our users write it as one literal.": whatever the literal and wherever its fields lie, a
+-- test of it, an assignment, an Exact, a CIDR and a wildcard over all its fields have good form and keep the rules (specs/Claims.antt: TakesWhole).
+-- Of which values the core holds is `demand-2` (forms), for every length
+pub long-literal-theorem : (s : ℕ) (a : Bits) → length a ≤ 192 → s + length a < 2 ^ 32 → (u : Use) → TakesWhole a u
+    → let e : Expr = Ranged (Direct s (s + length a)) u in Good (encode e) e
+long-literal-theorem = good-over
+
+-- "Range patterns keep their 128-bit field limit.": a wider field is refused by 20, whatever the bounds
+pub range-limit-theorem : (a b : Bits) (n at : ℕ)
+    → ((patternRule (IpRange a b) n at ≡ ok tt) ↔ ((n ≤ 128) × (length a ≤ n) × (length b ≤ n) × (valueOf a ≤ valueOf b)))
+    × (129 ≤ n → patternRule (IpRange a b) n at ≡ refuse 20 at)
+range-limit-theorem a b n at = (range-kept a b n at, range-wide a b n at)
+
+-- literals of 192 bits and range patterns of 128 with their cores; what is refused at the limits (desugar/specs/Probes.antt)
+pub longer-theorem : map computed longer ≡ map stated longer
+longer-theorem = longer-probes
+
+pub too-long-theorem : map answered tooLong ≡ map refusedBy tooLong
+too-long-theorem = too-long-probes

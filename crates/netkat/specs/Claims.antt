@@ -3,7 +3,8 @@
 use mathlib.Core.{Path._≡_, Logic._↔_, Bool.true, List.List, List.[], List._∷_, List._++_, List.List·Memᴰ}
 use Prim.Native.Nat.{ℕ, _+_, _^_, _≤_, _<_}
 use lib.{ListN.length}
-use Rattle.expr.specs.{Answers.Answer, Answers.ok, Answers.refuse, Answers.mapAnswer, Answers.andThen, Terms.Zero, Terms.One, Terms.Top, Terms.Dup, Terms.End, Terms.Assign, Terms.Test, Terms.Op1, Terms.Op2, Terms.Core, Terms.Name, Terms.Expr, Terms.Plain, Terms.Unary, Terms.Binary, Terms.TestNegation, Terms.IfThenElse, Terms.Let, Terms.LetBitRange, Terms.Var, Terms.Ranged, Terms.atomKind, Terms.op1Kind, Terms.op2Kind, Terms.records, Form.decode, Form.encodeCore, Form.rangedRecord}
+use Rattle.literals.specs.{Bits.Bits, Patterns.Exact, Patterns.Cidr, Patterns.Wildcard}
+use Rattle.expr.specs.{Answers.Answer, Answers.ok, Answers.refuse, Answers.mapAnswer, Answers.andThen, Terms.Zero, Terms.One, Terms.Top, Terms.Dup, Terms.End, Terms.Assign, Terms.Test, Terms.Op1, Terms.Op2, Terms.Core, Terms.Name, Terms.Expr, Terms.Plain, Terms.Unary, Terms.Binary, Terms.TestNegation, Terms.IfThenElse, Terms.Let, Terms.LetBitRange, Terms.Var, Terms.Ranged, Terms.Use, Terms.Assigns, Terms.Tests, Terms.Matches, Terms.atomKind, Terms.op1Kind, Terms.op2Kind, Terms.records, Form.decode, Form.encodeCore, Form.rangedRecord}
 use Rattle.desugar.specs.{Bindings.variable, Bindings.range, Meter.spent, Meter.drawn, Meter.overdrawn, Desugar.desugar, Desugar.desugarBytes, Desugar.maxAllowance, Desugar.workFor, Negation.isTest, Packets.oneStep, Packets.OneStep, Packets.Others, Packets.Packet, Packets.coreMeans, Claims.Limit}
 use Rattle.netkat.specs.{Points.Scope, Points.Point, Points.walk, Points.definitions, Points.desugarAt, Points.meansAt, Points.oneSteps, Check.RulesHold, Check.firstFailure, Check.sorts, Check.testSort}
 
@@ -125,3 +126,14 @@ pub record Desugared (bs : List ℕ) (out : List ℕ) (m : ℕ) : Type 0 where
   pub unlimited : Unlimited term core draws
   pub bytes : out ≡ encodeCore core
   pub total : m ≡ drawn draws
+
+-- ## Change 6 of document 02
+
+-- "Everything that takes or compares a literal": the uses that take a literal a whole, over as many fields as it has bits. Of a range
+-- pattern's bounds the rules ask more
+pub data TakesWhole (a : Bits) : Use → Type 0 where
+  test : TakesWhole a (Tests a)
+  assign : TakesWhole a (Assigns a)
+  exact : TakesWhole a (Matches (Exact a))
+  cidr : (k : ℕ) → k ≤ length a → TakesWhole a (Matches (Cidr a k))
+  wildcard : (m : Bits) → length m ≡ length a → TakesWhole a (Matches (Wildcard a m))

@@ -36,6 +36,6 @@ Answers (Desugar bs n work) out out′ r = Hosts (desugarBytes bs n work (length
 Answers (Substitute bs x rs) out out′ r = Hosts (mapAnswer (λ cs. (cs, 0)) (substituteBytes bs x rs (length out))) out out′ r
 Answers (Subrange a b s e) out out′ r = (r ≡ hosted (computeSubrange a b s e)) × (out′ ≡ out)
 
--- this library's version, 0.1.0, as one number, for a host to compare with that of its header. Ours: no sentence of document 01 asks for it
+-- this library's version, 0.2.0, as one number, for a host to compare with that of its header. Ours: no sentence of document 01 asks for it
 abbrev pub version : ℕ
-version = 0 * 65536 + 1 * 256 + 0
+version = 0 * 65536 + 2 * 256 + 0

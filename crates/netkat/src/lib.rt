@@ -49,5 +49,5 @@ pub extern "C" fn netkat_compute_subrange(
 pub extern "C" fn netkat_version() -> u32
     ensures { λ r. ⌜ r ≡ version ⌝ }
 {
-    256
+    512
 }

@@ -7,7 +7,7 @@ use libc::STDOUT_FILENO;
 use netkat::Answer;
 
 // The longest answer buffer of a case, and what each of its bytes is before a call.
-const ROOM: usize = 8192;
+const ROOM: usize = 9216;
 
 const MARK: u8 = 165;
 
@@ -123,13 +123,13 @@ fn holds(out: &[u8], result: &[u8]) -> bool {
     if out.len() < n {
         return false;
     }
-    let marks = [MARK; 8192];
+    let marks = [MARK; 9216];
     check::same(&out[0..n], result) && check::same(&out[n..], &marks[n..])
 }
 
 // Whether a Substitute agrees: its answer, and every byte of a buffer that was marked before.
 fn replaced(case: Case, term: &[u8], replacement: &[u8], result: &[u8]) -> bool {
-    let mut out = [MARK; 8192];
+    let mut out = [MARK; 9216];
     let got = substituted(term, case.name, replacement, &mut out, case.room as usize);
     agree(expected(case), got) && holds(&out, result)
 }
@@ -160,7 +160,7 @@ fn desugared_anew(term: &[u8], allowance: u32, size: usize, out: &mut [u8], room
 
 // Whether a desugaring agrees: its answer, and every byte of a buffer that was marked before.
 fn cored(case: Case, term: &[u8], result: &[u8]) -> bool {
-    let mut out = [MARK; 8192];
+    let mut out = [MARK; 9216];
     let got = desugared_anew(
         term,
         case.allowance,
