@@ -102,12 +102,18 @@ impl Expr {
     /// | an empty literal, except in `x[3..3] := 0` | `0b` |
     /// | the test of an empty range | `x[3..3] == 0` |
     /// | a CIDR address that has not 32 bits, or a prefix above 32 | `160/3`, `0x0a/3` |
-    /// | a wildcard whose address or mask has not 32 bits | `160 mask 0b00011111` |
+    /// | a wildcard with an address of more than 32 bits | `0x0a00000000 mask 0x00000000ff` |
+    /// | another wildcard whose address or mask has not 32 bits | `160 mask 0b00011111` |
     /// | a range pattern whose bounds have widths that the syntax cannot say | `0b01-0x3` |
     ///
     /// Other literals are written in decimal where that is read with their width, as an address if they have 32 bits, else in hexadecimal or
-    /// binary digits, as many as they have bits. From 128 bits on, the original's parser refuses, wraps or panics, by value and build.
-    /// It may want gigabytes for a value of a direct range that ends below its start. And it recurses: about 1,600 parentheses one in
+    /// binary digits, as many as they have bits; those of more than 128 bits never in decimal.
+    ///
+    /// Literals of 128 bits or more are written for a reader and not for the original's parser. A debug build of it panics there. A release
+    /// build reads zero, and refuses all else but small values of 129 bits or more. Those, below 2 to the power of the width less 128,
+    /// **it takes for others**: the value stands there once more from bit 128 on.
+    ///
+    /// The parser may want gigabytes for a value of a direct range that ends below its start. And it recurses: about 1,600 parentheses one in
     /// another are too many for a stack of 8 MB.
     ///
     /// # Names
@@ -469,7 +475,8 @@ impl fmt::Display for PatternText<'_> {
         match pattern {
             Pattern::Exact(bits) => write!(f, "{}", target.pattern_literal(bits)),
             Pattern::Cidr { address, prefix_len } => write!(f, "{}/{prefix_len}", target.pattern_literal(address)),
-            Pattern::Wildcard { address, mask } if mask.len() == 32 => {
+            // The original refuses an address of more than 32 bits whatever the mask's digits: a long mask has those that are read best.
+            Pattern::Wildcard { address, mask } if mask.len() == 32 || address.len() > 32 => {
                 write!(f, "{} mask {}", target.pattern_literal(address), Literal::with_own_width(mask))
             }
             // The original reads a mask of other digits with 32 bits, but none of binary digits.

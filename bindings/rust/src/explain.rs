@@ -8,8 +8,8 @@ use crate::literal::{grouped, value, Literal};
 use crate::outline::Outline;
 use crate::{Desugarer, Expr, Field, FormFault, Names, Pattern, Refusal, RefusalKind};
 
-/// How many characters of a part of the policy are shown.
-const SHOWN: usize = 100;
+/// How many characters of a part of the policy are shown: room for a match of two literals of 192 bits.
+const SHOWN: usize = 120;
 
 /// How many names in scope are listed.
 const LISTED: usize = 5;
@@ -250,6 +250,7 @@ impl At<'_> {
             }
             (RefusalKind::IpRangeWidth, Pattern::IpRange { start, end }) => self.range_width(start, end, &fields, width),
             (RefusalKind::IpRangeOrder, Pattern::IpRange { start, end }) => {
+                // 20 comes before 21: a bound has at most 128 bits here.
                 let (from, to) = (value(start)?, value(end)?);
                 let own = |bits| Literal::with_own_width(bits).to_string();
                 let shown = if start.len() == 32 && end.len() == 32 {

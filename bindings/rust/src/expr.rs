@@ -26,7 +26,8 @@ pub enum Pattern {
         /// How many of its highest bits are tested.
         prefix_len: usize,
     },
-    /// The value lies between the bounds, both included. Bounds shorter than the range get false high bits.
+    /// The value lies between the bounds, both included. Bounds shorter than the range get false high bits. The range has at most 128
+    /// fields, although literals can be longer.
     IpRange {
         /// The lowest value.
         start: Vec<bool>,

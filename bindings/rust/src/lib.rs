@@ -25,7 +25,7 @@
 //!
 //! | for | see |
 //! |---|---|
-//! | building terms | [`Expr`], [`Expr::union_all`], [`Pattern`], [`Names`], [`bits`] |
+//! | building terms | [`Expr`], [`Expr::union_all`], [`Pattern`], [`Names`], [`bits`], [`bits_of_words`] |
 //! | addresses, prefixes and wildcards | [`Pattern::ipv4_prefix`], [`ParsePatternError`] |
 //! | terms and cores as text | [`Expr::display`] |
 //! | judging a term without making its core | [`Expr::check`] |
@@ -108,11 +108,32 @@ pub fn library_version() -> (u32, u32, u32) {
     (version >> 16, version >> 8 & 0xff, version & 0xff)
 }
 
-/// The lowest `width` bits of a value, least significant first. Bits beyond 128 are false.
+/// The lowest `width` bits of a value, least significant first. Bits beyond 128 are false; for longer values see [`bits_of_words`].
 ///
 /// ```
 /// assert_eq!(netkat::bits(5, 4), [true, false, true, false]);
 /// ```
 pub fn bits(value: u128, width: usize) -> Vec<bool> {
     (0..width).map(|i| i < 128 && value >> i & 1 == 1).collect()
+}
+
+/// The bits of 32-bit words, least significant first: the first word is in the highest 32, as the first octet of an address is in the highest
+/// eight. Six words, as of a label stack, are the longest literal. For a width that is no multiple of 32, [`Vec::truncate`] cuts off the
+/// highest bits.
+///
+/// ```
+/// use netkat::{bits_of_words, desugar, Expr, Pattern};
+///
+/// // Labels 16 to 21 with a TTL of 64, the top of the stack first. The last entry has the bottom-of-stack bit.
+/// let stack = [0x10040, 0x11040, 0x12040, 0x13040, 0x14040, 0x15140];
+/// let whole = Expr::bit_range_test(0, 192, bits_of_words(&stack));
+/// assert_eq!(desugar(&whole).unwrap().len(), 192 + 191);
+///
+/// // A prefix of 96 looks at the first three words, which are the fields 96 to 191.
+/// let prefix = Pattern::Cidr { address: bits_of_words(&stack), prefix_len: 96 };
+/// let first_three = Expr::bit_range_test(96, 192, bits_of_words(&stack[..3]));
+/// assert_eq!(desugar(&Expr::bit_range_match(0, 192, prefix)), desugar(&first_three));
+/// ```
+pub fn bits_of_words(words: &[u32]) -> Vec<bool> {
+    words.iter().rev().flat_map(|word| bits((*word).into(), 32)).collect()
 }

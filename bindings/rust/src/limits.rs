@@ -100,11 +100,12 @@ pub const MAX_RECORDS: usize = 4_096;
 /// The most levels of a policy; the root is at level 1.
 pub const MAX_LEVELS: usize = 256;
 
-/// The most bits of a literal.
-pub const MAX_LITERAL_BITS: usize = 128;
+/// The most bits of a literal: a label stack of six 32-bit words is one ([`bits_of_words`](crate::bits_of_words)).
+pub const MAX_LITERAL_BITS: usize = 192;
 
 /// The longest prefix that can be written. The number of fields that it is matched against limits it further.
 pub const MAX_CIDR_PREFIX: usize = 255;
 
-/// The most fields that a range pattern can be matched against.
+/// The most fields that a range pattern can be matched against, fewer than a literal may have bits. Of a longer field a part can be
+/// matched: where the fields 0 to 191 hold six words, the first word is x[160..192].
 pub const MAX_RANGE_PATTERN_FIELDS: usize = 128;

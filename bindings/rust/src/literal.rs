@@ -11,9 +11,12 @@ pub(crate) fn shortest(bits: &[bool]) -> usize {
     bits.iter().rposition(|bit| *bit).map_or(1, |highest| highest + 1)
 }
 
-/// The value of at most 128 bits.
+/// The most bits of a value that is written in decimal: what a number holds, here and in the original's parser. A literal can have more.
+const NUMBER_BITS: usize = u128::BITS as usize;
+
+/// The value; `None` of more bits than a number holds.
 pub(crate) fn value(bits: &[bool]) -> Option<u128> {
-    if bits.len() > 128 {
+    if bits.len() > NUMBER_BITS {
         return None;
     }
     Some(bits.iter().rev().fold(0, |value, bit| value << 1 | u128::from(*bit)))
@@ -33,6 +36,9 @@ pub(crate) fn grouped(number: impl Into<u64>) -> String {
 }
 
 /// A literal, written so that it is read with its own width wherever the syntax can say that.
+///
+/// Beyond a number's bits the notation stays that of shorter ones. The original's parser has no number for these, but its syntax gives a
+/// digit four bits or one at any length, and 48 digits of a label stack are eight for each word.
 #[derive(Clone, Copy)]
 pub(crate) struct Literal<'a> {
     bits: &'a [bool],
@@ -42,7 +48,7 @@ pub(crate) struct Literal<'a> {
 impl<'a> Literal<'a> {
     /// At a place where a decimal literal of this value is read with `decimal_width` bits.
     pub fn at(bits: &'a [bool], decimal_width: usize) -> Self {
-        let decimal = bits.len() == decimal_width && bits.len() != 32 && bits.len() <= 128;
+        let decimal = bits.len() == decimal_width && bits.len() != 32 && bits.len() <= NUMBER_BITS;
         Literal { bits, decimal }
     }
 
@@ -74,7 +80,7 @@ impl fmt::Display for Literal<'_> {
     }
 }
 
-/// Digits of `size` bits, the highest first.
+/// Digits of `size` bits, the highest first; that one may have fewer.
 fn digits(bits: &[bool], size: usize, f: &mut fmt::Formatter<'_>) -> fmt::Result {
     for digit in bits.chunks(size).rev() {
         let digit = digit.iter().rev().fold(0, |digit, bit| digit << 1 | u8::from(*bit));
@@ -90,7 +96,12 @@ impl fmt::Display for ValueAndWidth<'_> {
     fn fmt(&self, f: &mut fmt::Formatter<'_>) -> fmt::Result {
         match value(self.0) {
             Some(value) => write!(f, "{value}/{}", self.0.len()),
-            None => write!(f, "{}/{}", Literal::with_own_width(self.0), self.0.len()),
+            // The width is said, so the digits need not say it: hexadecimal ones are shorter.
+            None => {
+                f.write_str("0x")?;
+                digits(self.0, 4, f)?;
+                write!(f, "/{}", self.0.len())
+            }
         }
     }
 }
@@ -119,7 +130,9 @@ mod tests {
     fn values_with_widths() {
         assert_eq!(ValueAndWidth(&bits(5, 3)).to_string(), "5/3");
         assert_eq!(ValueAndWidth(&[]).to_string(), "0/0");
+        assert_eq!(ValueAndWidth(&bits(u128::MAX, 128)).to_string(), format!("{}/128", u128::MAX));
         assert_eq!(ValueAndWidth(&bits(1, 132)).to_string(), format!("0x{}1/132", "0".repeat(32)));
+        assert_eq!(ValueAndWidth(&[true; 129]).to_string(), format!("0x1{}/129", "f".repeat(32)));
     }
 
     #[test]

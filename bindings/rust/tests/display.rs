@@ -2,7 +2,7 @@
 
 use std::thread;
 
-use netkat::{bits, desugar, Core, Exp, Expr, Names, Pattern};
+use netkat::{bits, bits_of_words, desugar, Core, Exp, Expr, Names, Pattern};
 
 fn written(policy: Exp) -> String {
     policy.to_string()
@@ -88,6 +88,7 @@ fn what_the_syntax_cannot_say() {
         (matched(Pattern::Cidr { address: bits(1, 32), prefix_len: 33 }), "n1 ~ 0.0.0.1/33"),
         (matched(Pattern::Wildcard { address: bits(1, 8), mask: bits(3, 8) }), "n1 ~ 0x01 mask 0b00000011"),
         (matched(Pattern::Wildcard { address: bits(1, 32), mask: bits(3, 8) }), "n1 ~ 0.0.0.1 mask 0b00000011"),
+        (matched(Pattern::Wildcard { address: bits(1, 40), mask: bits(3, 40) }), "n1 ~ 0x0000000001 mask 0x0000000003"),
         (matched(Pattern::IpRange { start: bits(1, 2), end: bits(3, 4) }), "n1 ~ 0b01-0x3"),
     ];
     for (policy, text) in cases {
@@ -102,7 +103,35 @@ fn long_literals() {
     let text = |width| Expr::var_assign(1, bits(1, width)).to_string();
     assert_eq!(text(128), format!("n1 := 0x{}1", "0".repeat(31)));
     assert_eq!(text(129), format!("n1 := 0b{}1", "0".repeat(128)));
+    assert_eq!(text(191), format!("n1 := 0b{}1", "0".repeat(190)));
     assert_eq!(text(192), format!("n1 := 0x{}1", "0".repeat(47)));
+
+    // A direct range gives a decimal number its width, up to 128 bits.
+    let text = |width| Expr::bit_range_assign(0, width, bits(1, width as usize)).to_string();
+    assert_eq!(text(128), "x[0..128] := 1");
+    assert_eq!(text(129), format!("x[0..129] := 0b{}1", "0".repeat(128)));
+    assert_eq!(text(192), format!("x[0..192] := 0x{}1", "0".repeat(47)));
+}
+
+/// The digits of a label stack of six words are those of the words.
+#[test]
+fn label_stacks() {
+    let stack = || bits_of_words(&[0x10040, 0x11040, 0x12040, 0x13040, 0x14040, 0x15140]);
+    let digits = "0x000100400001104000012040000130400001404000015140";
+    let text = |pattern| Expr::bit_range_match(0, 192, pattern).to_string();
+    assert_eq!(Expr::bit_range_test(0, 192, stack()).to_string(), format!("x[0..192] ~ {digits}"));
+    assert_eq!(text(Pattern::Exact(stack())), format!("x[0..192] ~ {digits}"));
+    assert_eq!(text(Pattern::Exact(bits_of_words(&[0x10040, 0x11040]))), "x[0..192] ~ 0x0001004000011040");
+    assert_eq!(text(Pattern::Cidr { address: stack(), prefix_len: 96 }), format!("x[0..192] ~ {digits}/96"));
+    let mask = bits_of_words(&[0, 0xfff, u32::MAX, 0, 0, 0]);
+    assert_eq!(
+        text(Pattern::Wildcard { address: stack(), mask }),
+        format!("x[0..192] ~ {digits} mask 0x0000000000000fffffffffff{}", "0".repeat(24))
+    );
+    // Where the width is not the range's it is said, and the digits are hexadecimal at any width.
+    assert_eq!(Expr::bit_range_assign(0, 160, stack()).to_string(), format!("x[0..160] := {digits}/192"));
+    let odd = Expr::bit_range_test(0, 160, stack()[..189].to_vec());
+    assert_eq!(odd.to_string(), format!("x[0..160] == {digits}/189"));
 }
 
 #[test]

@@ -3,7 +3,7 @@
 mod common;
 
 use netkat::limits::MAX_LITERAL_BITS;
-use netkat::{bits, Desugarer, Exp, Expr, Names, Pattern, Refusal};
+use netkat::{bits, bits_of_words, Desugarer, Exp, Expr, Names, Pattern, Refusal};
 
 /// Names with the words of the cases: a is 0, b is 1, v is 2, "two words" is 3.
 fn names() -> Names {
@@ -162,6 +162,81 @@ fn widths_of_patterns() {
     );
 }
 
+/// A label stack of six words, and its digits. They are too many for a sentence and stand in the part.
+fn stack() -> Vec<bool> {
+    bits_of_words(&[0x10040, 0x11040, 0x12040, 0x13040, 0x14040, 0x15140])
+}
+
+const STACK: &str = "0x000100400001104000012040000130400001404000015140";
+
+fn five_words(body: Exp) -> Exp {
+    Expr::let_bit_range(A, 0, 160, body)
+}
+
+#[test]
+fn widths_of_long_values() {
+    case(
+        five_words(Expr::var_test(A, stack())),
+        "the value has 192 bits, but alias `a`, x[0..160], has 160 fields (record 1, refusal 15)",
+        &format!("a ~ {STACK}"),
+    );
+    case(
+        Expr::bit_range_match(0, 191, Pattern::Exact(stack())),
+        "the value has 192 bits, but x[0..191] has 191 fields (record 0, refusal 15)",
+        &format!("x[0..191] ~ {STACK}"),
+    );
+    case(
+        Expr::bit_range_assign(0, 160, stack()),
+        "the value has 192 bits, but x[0..160] has 160 fields, and a direct range takes exactly as many bits (record 0, refusal 16)",
+        &format!("x[0..160] := {STACK}/192"),
+    );
+}
+
+#[test]
+fn widths_of_long_patterns() {
+    case(
+        Expr::bit_range_match(0, 192, Pattern::Cidr { address: stack(), prefix_len: 193 }),
+        "the CIDR prefix is 193, but x[0..192] has 192 fields (record 0, refusal 17)",
+        &format!("x[0..192] ~ {STACK}/193"),
+    );
+    case(
+        five_words(Expr::var_match(A, Pattern::Cidr { address: stack(), prefix_len: 96 })),
+        "the CIDR address has 192 bits, but alias `a`, x[0..160], has 160 fields (record 1, refusal 18)",
+        &format!("a ~ {STACK}/96"),
+    );
+    let mask = || bits_of_words(&[0, 0, 0, u32::MAX, u32::MAX, u32::MAX]);
+    case(
+        Expr::bit_range_match(0, 160, Pattern::Wildcard { address: stack(), mask: mask() }),
+        "the wildcard's address has 192 bits and its mask has 192 bits, but x[0..160] has 160 fields (record 0, refusal 19)",
+        &format!("x[0..160] ~ {STACK} mask 0x{}{}", "0".repeat(24), "f".repeat(24)),
+    );
+}
+
+#[test]
+fn wide_range_patterns() {
+    let (low, high) = (|width| bits(1, width), |width| bits(u128::MAX, width));
+    let range = |fields, start, end| Expr::bit_range_match(0, fields, Pattern::IpRange { start: low(start), end: high(end) });
+    case(
+        range(192, 192, 192),
+        "x[0..192] has 192 fields, and a range pattern, here with bounds of 192 and 192 bits, can be matched against 128 at most \
+         (record 0, refusal 20)",
+        &format!("x[0..192] ~ 0x{}1-0x{}{}", "0".repeat(47), "0".repeat(16), "f".repeat(32)),
+    );
+    case(
+        range(129, 128, 0),
+        "x[0..129] has 129 fields, and a range pattern, here with bounds of 128 and 0 bits, can be matched against 128 at most \
+         (record 0, refusal 20)",
+        &format!("x[0..129] ~ 0x{}1-0b", "0".repeat(31)),
+    );
+    case(
+        range(128, 132, 128),
+        "the start of the range pattern has 132 bits and its end has 128 bits, but x[0..128] has 128 fields (record 0, refusal 20)",
+        &format!("x[0..128] ~ 0x{}1-0x{}", "0".repeat(32), "f".repeat(32)),
+    );
+    let facts = "the start of the range pattern has 128 bits and its end has 129 bits, but x[0..128] has 128 fields (record 0, refusal 20)";
+    assert_eq!(explained(&range(128, 128, 129)).lines().next(), Some(facts));
+}
+
 #[test]
 fn what_is_not_a_test() {
     case(
@@ -193,7 +268,7 @@ fn long_parts_are_shortened() {
     let long = Expr::test_negation(Expr::union_all((0..60).map(|field| Expr::assign(field, true))));
     let text = explained(&long);
     let part = text.lines().last().unwrap().strip_prefix("  in: ").unwrap();
-    assert_eq!(part.chars().count(), 101, "{text}");
+    assert_eq!(part.chars().count(), 121, "{text}");
     assert!(part.starts_with("!(x0 := 1 + x1 := 1") && part.ends_with('…'), "{text}");
 }
 
@@ -234,11 +309,25 @@ fn spent_allowances() {
 }
 
 #[test]
+fn literals_beyond_the_limit() {
+    case(
+        Expr::bit_range_test(0, 193, bits(0, 193)),
+        "the value has 193 bits, and 192 are the limit (record 0, refusal 5)",
+        &format!("x[0..193] ~ 0b{}…", "0".repeat(106)),
+    );
+    case(
+        Expr::bit_range_match(0, 196, Pattern::Cidr { address: bits(1, 196), prefix_len: 96 }),
+        "the CIDR address has 196 bits, and 192 are the limit (record 0, refusal 5)",
+        &format!("x[0..196] ~ 0x{}1/96", "0".repeat(48)),
+    );
+}
+
+#[test]
 fn form() {
     case(
         Expr::union(Expr::one(), Expr::var_test(A, bits(0, 1_129))),
         &format!("the value has 1,129 bits, and {MAX_LITERAL_BITS} are the limit (record 2, refusal 5)"),
-        &format!("a ~ 0b{}…", "0".repeat(94)),
+        &format!("a ~ 0b{}…", "0".repeat(114)),
     );
     let long = || bits(0, 200);
     let facts = |pattern: Pattern| explained(&matched(pattern)).lines().next().unwrap().to_owned();

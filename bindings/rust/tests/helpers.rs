@@ -2,7 +2,9 @@
 
 use std::net::{Ipv4Addr, Ipv6Addr};
 
-use netkat::{bits, bits_of_ipv4, bits_of_ipv6, desugar, Core, Exp, Expr, ParsePatternError, Pattern, View};
+use netkat::{
+    bits, bits_of_ipv4, bits_of_ipv6, bits_of_words, desugar, limits, Core, Exp, Expr, ParsePatternError, Pattern, View,
+};
 
 fn depth(term: &Expr) -> usize {
     match term {
@@ -20,6 +22,22 @@ fn the_first_octet_is_the_highest() {
     assert_eq!(bits_of_ipv4(address), expected);
     assert_eq!(bits_of_ipv4(Ipv4Addr::new(1, 2, 3, 4)), bits(0x0102_0304, 32));
     assert_eq!(bits_of_ipv6(Ipv6Addr::new(0x8000, 0, 0, 0, 0, 0, 0, 3)), bits(1 << 127 | 3, 128));
+}
+
+#[test]
+fn the_first_word_is_the_highest() {
+    assert_eq!(bits_of_words(&[]), []);
+    assert_eq!(bits_of_words(&[5]), bits(5, 32));
+    assert_eq!(bits_of_words(&[0x2001_0db8, 0, 0, 5]), bits_of_ipv6("2001:db8::5".parse().unwrap()));
+    // Beyond 128 bits: the lowest word, and the highest bit.
+    let stack = bits_of_words(&[1 << 31, 0, 0, 0, 0, 5]);
+    assert_eq!(stack.len(), limits::MAX_LITERAL_BITS);
+    assert_eq!(stack[..191], bits(5, 191));
+    assert!(stack[191]);
+    // One word more is one too many.
+    let refused = |words: &[u32]| Expr::bit_range_test(0, 32 * words.len() as u32, bits_of_words(words)).check();
+    assert_eq!(refused(&[0; 6]), Ok(true));
+    assert_eq!(refused(&[0; 7]).unwrap_err().number, 5);
 }
 
 #[test]

@@ -54,12 +54,13 @@ fn form() {
     let stars = [1, 14].repeat(256);
     let many: Vec<u8> = [[1, 7].repeat(11), [0].repeat(5_000)].concat();
     let large = balanced(13);
-    let cases: [(&[u8], (u32, u32)); 8] = [
+    let cases: [(&[u8], (u32, u32)); 9] = [
         (&[1, 14], (1, 1)),
         (&[1, 27], (2, 0)),
         (&[2, 1, 0], (3, 0)),
         (&[1, 0], (4, 0)),
         (&[0x21, 6, 2], (5, 0)),
+        (&[0x41, 22, 193], (5, 0)), // a literal of 193 bits
         (&large, (6, 4_096)),
         (&stars, (7, 256)),
         (&many, (8, 23)),

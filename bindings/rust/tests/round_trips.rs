@@ -3,6 +3,7 @@
 mod common;
 
 use common::{terms, Random};
+use netkat::limits::MAX_LITERAL_BITS;
 use netkat::{bytes, Core, Desugarer, Exp, Expr, Refusal};
 
 #[test]
@@ -28,6 +29,20 @@ fn every_kind_is_among_them() {
     kinds.sort();
     kinds.dedup();
     assert_eq!(kinds.len(), 27, "{kinds:?}");
+}
+
+#[test]
+fn long_literals_are_among_them() {
+    let length = |node: &Expr| match node {
+        Expr::VarAssign(_, bits) | Expr::VarTest(_, bits) => Some(bits.len()),
+        Expr::BitRangeAssign(_, _, bits) | Expr::BitRangeTest(_, _, bits) => Some(bits.len()),
+        _ => None,
+    };
+    let lengths: Vec<usize> = terms(1, 800).flat_map(|term| term.nodes().filter_map(length).collect::<Vec<_>>()).collect();
+    for wanted in [127, 128, 129, 191, 192] {
+        assert!(lengths.contains(&wanted), "none of {wanted} bits");
+    }
+    assert!(lengths.iter().all(|length| *length <= MAX_LITERAL_BITS));
 }
 
 #[test]
@@ -106,6 +121,28 @@ fn form_of_short_strings() {
     }
 }
 
+/// Every length byte, with the bytes that it asks for, one less, and a spare bit.
+#[test]
+fn form_of_literals() {
+    for length in 0..=255u8 {
+        let number = |bytes: &[u8]| same_form(bytes).map_or_else(|refusal| refusal.number, |_| 0);
+        let packed = usize::from(length).div_ceil(8);
+        let term = [vec![0x41, 22, length], vec![0; packed]].concat(); // VarTest of name 0
+        let expected = |good| match length {
+            0 => 4,
+            1..=192 => good,
+            _ => 5,
+        };
+        assert_eq!(number(&term), expected(0), "{length}");
+        if length > 0 {
+            assert_eq!(number(&term[..term.len() - 1]), expected(1), "{length}");
+            let mut highest = term.clone();
+            highest[2 + packed] = 0x80;
+            assert_eq!(number(&highest), expected(if length % 8 == 0 { 0 } else { 4 }), "{length}");
+        }
+    }
+}
+
 #[test]
 fn form_of_changed_terms() {
     let mut random = Random::new(5);
@@ -152,6 +189,9 @@ fn form_of_cores() {
             }
             (Ok(_), Err(limit)) => assert!(matches!(limit.number, 6 | 7), "{limit}"),
             (Err(kind), Ok(_)) => assert_eq!(kind.number, 2),
+            (Err(a), Err(limit)) if matches!(limit.number, 6 | 7) => {
+                assert!(a.number == 2 || limit.place <= a.place, "{a}, {limit}")
+            }
             (Err(a), Err(b)) => assert!(a == b || a.number == 2 && a.place <= b.place, "{a}, {b}"),
         }
     }

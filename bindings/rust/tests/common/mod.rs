@@ -38,12 +38,21 @@ impl Random {
         self.below(2) == 1
     }
 
-    fn bits(&mut self, length: usize) -> Vec<bool> {
+    pub fn bits(&mut self, length: usize) -> Vec<bool> {
         (0..length).map(|_| self.flag()).collect()
     }
 
+    /// The length of a literal: mostly short, now and then up to the limit.
+    fn length(&mut self) -> usize {
+        match self.below(20) {
+            0 => [127, 128, 129, 191, 192][self.below(5)],
+            1 => 130 + self.below(61),
+            _ => self.below(10),
+        }
+    }
+
     fn literal(&mut self) -> Vec<bool> {
-        let length = if self.below(20) == 0 { 128 } else { self.below(10) };
+        let length = self.length();
         self.bits(length)
     }
 
@@ -65,13 +74,13 @@ impl Random {
         if self.below(15) == 0 {
             return (start + 3, start, 0);
         }
-        let width = self.below(9);
+        let width = self.length();
         (start, start + width as u32, width)
     }
 
     /// A pattern for a range of this width; now and then one that does not suit it.
     fn pattern(&mut self, width: usize) -> Pattern {
-        let width = if self.below(6) == 0 { self.below(10) } else { width };
+        let width = if self.below(6) == 0 { self.length() } else { width };
         match self.below(4) {
             0 => Pattern::Exact(self.bits(width)),
             1 => Pattern::Cidr { address: self.bits(width), prefix_len: self.below(width + 2) },
