@@ -27,24 +27,27 @@ extern "C" {
 
 /* The version of this header. The pkg-config file takes it from here, and a test compares netkat_version with it. */
 #define NETKAT_VERSION_MAJOR 0
-#define NETKAT_VERSION_MINOR 1
+#define NETKAT_VERSION_MINOR 2
 #define NETKAT_VERSION_PATCH 0
 #define NETKAT_VERSION (NETKAT_VERSION_MAJOR * 65536 + NETKAT_VERSION_MINOR * 256 + NETKAT_VERSION_PATCH)
 
 /* The version of the library that is linked, as NETKAT_VERSION puts it. */
 uint32_t netkat_version(void);
 
-/* Limits of a term: beyond the first three it is refused by 6, 7 and 5; a greater prefix cannot be written, and one above 128 breaks rule
+/* Limits of a term: beyond the first three it is refused by 6, 7 and 5; a greater prefix cannot be written, and one above 192 breaks rule
  * 17 or 18. */
 #define NETKAT_MAX_RECORDS 4096
 #define NETKAT_MAX_LEVELS 256
-#define NETKAT_MAX_LITERAL_BITS 128
+#define NETKAT_MAX_LITERAL_BITS 192
 #define NETKAT_MAX_PREFIX 255
 
-/* The longest record, a match on a direct range with two literals of 128 bits, and the longest term: 1,365 Ifs over 2,731 such matches.
+/* The most fields that an IpRange can be matched against; with more it is refused by 20. */
+#define NETKAT_MAX_IP_RANGE_FIELDS 128
+
+/* The longest record, a match on a direct range with two literals of 192 bits, and the longest term: 1,365 Ifs over 2,731 such matches.
  * A buffer of NETKAT_TERM_MAX bytes holds every term, so also every result of netkat_substitute. */
-#define NETKAT_RECORD_MAX 45
-#define NETKAT_TERM_MAX 125625
+#define NETKAT_RECORD_MAX 61
+#define NETKAT_TERM_MAX 169321
 
 /* Desugar: the greatest allowance; the numbers of work memory that an allowance needs, so that 10 is not met; bytes that no core under an
  * allowance exceeds, so that 26 is not met. */
@@ -71,7 +74,7 @@ enum netkat_refusal {
     NETKAT_REFUSAL_UNKNOWN_KIND = 2,     /* a kind above 26 */
     NETKAT_REFUSAL_FOREIGN_FIELD = 3,    /* a map bit of a field that the kind, or the pattern, does not have */
     NETKAT_REFUSAL_ZERO_WRITTEN = 4,     /* a field that is zero or empty is written, or a spare bit of a literal is 1 */
-    NETKAT_REFUSAL_OUT_OF_RANGE = 5,     /* a pattern above 3, the value of an Assign or Test above 1, a literal of more than 128 bits */
+    NETKAT_REFUSAL_OUT_OF_RANGE = 5,     /* a pattern above 3, the value of an Assign or Test above 1, a literal of more than 192 bits */
     NETKAT_REFUSAL_TOO_MANY_RECORDS = 6, /* more than 4,096 records */
     NETKAT_REFUSAL_TOO_DEEP = 7,         /* more than 256 levels */
     NETKAT_REFUSAL_LEFT_OVER = 8,        /* bytes behind the end of the term */

@@ -43,7 +43,7 @@ static void nulls(void) {
     expect("substitute, NULL alone", netkat_substitute(NULL, 0, 0, NULL, 0, NULL, 0), NETKAT_REFUSAL_ENDS_EARLY, 0, 0, 0);
 }
 
-/* `levels` levels of Ifs above matches of 45 bytes, to at; the end. */
+/* `levels` levels of Ifs above matches of NETKAT_RECORD_MAX bytes, to at; the end. */
 static uint8_t *ifs(uint8_t *at, int levels) {
     if (levels == 0) {
         const uint8_t head[] = {0xdd, NETKAT_KIND_BIT_RANGE_MATCH, 1, 1, 1, 1, 129, 1, 1, 1, NETKAT_PATTERN_IP_RANGE};
@@ -51,8 +51,8 @@ static uint8_t *ifs(uint8_t *at, int levels) {
         at += sizeof head;
         for (int i = 0; i < 2; i++) {
             *at = NETKAT_MAX_LITERAL_BITS;
-            memset(at + 1, 0x80, 16);
-            at += 17;
+            memset(at + 1, 0x80, NETKAT_MAX_LITERAL_BITS / 8);
+            at += 1 + NETKAT_MAX_LITERAL_BITS / 8;
         }
         return at;
     }
@@ -67,6 +67,31 @@ static uint8_t core_out[NETKAT_CORE_MAX(NETKAT_MAX_ALLOWANCE)];
 static netkat_answer desugar(const uint8_t *term, size_t len, uint32_t allowance, size_t work_len, size_t out_len) {
     static uint32_t work[NETKAT_WORK_LEN(NETKAT_MAX_ALLOWANCE)];
     return netkat_desugar(term, len, allowance, work, work_len, core_out, out_len);
+}
+
+/* Check of a match on the fields from 0 up to `width`, with a literal of `bits` bits, all of them 1, in the place of A and, if it is to
+ * stand, of B. */
+static netkat_answer check_match(uint8_t width, uint8_t pattern, uint8_t bits, int second) {
+    uint8_t term[NETKAT_RECORD_MAX + 2] = {NETKAT_MAP_KIND | NETKAT_MAP_END | NETKAT_MAP_A, NETKAT_KIND_BIT_RANGE_MATCH, width}, *at = term + 6;
+    if (second) term[0] |= NETKAT_MAP_B;
+    if (pattern) term[0] |= NETKAT_MAP_PATTERN, *at++ = pattern;
+    for (int i = 0; i <= second; i++) {
+        *at++ = bits;
+        for (unsigned left = bits; left > 0; left -= left < 8 ? left : 8) *at++ = (uint8_t)(left < 8 ? (1u << left) - 1 : 255);
+    }
+    return netkat_check(term, (size_t)(at - term));
+}
+
+/* Literals of up to NETKAT_MAX_LITERAL_BITS bits, and range patterns on up to NETKAT_MAX_IP_RANGE_FIELDS fields. */
+static void literal_limits(void) {
+    const uint8_t most = NETKAT_MAX_LITERAL_BITS, range = NETKAT_MAX_IP_RANGE_FIELDS;
+    expect("longest literal", check_match(most, NETKAT_PATTERN_EXACT, most, 0), 0, 0, 1, 0);
+    expect("longer literal", check_match(most + 1, NETKAT_PATTERN_EXACT, most + 1, 0), NETKAT_REFUSAL_OUT_OF_RANGE, 0, 0, 0);
+    expect("literal longer than the range", check_match(most - 1, NETKAT_PATTERN_EXACT, most, 0), NETKAT_REFUSAL_LITERAL_TOO_LONG, 0, 0, 0);
+    expect("longest wildcard", check_match(most, NETKAT_PATTERN_WILDCARD, most, 1), 0, 0, 1, 0);
+    expect("widest range pattern", check_match(range, NETKAT_PATTERN_IP_RANGE, range, 1), 0, 0, 1, 0);
+    expect("wider range pattern", check_match(range + 1, NETKAT_PATTERN_IP_RANGE, range, 1), NETKAT_REFUSAL_IP_RANGE_WIDTH, 0, 0, 0);
+    expect("bounds longer than the range", check_match(range, NETKAT_PATTERN_IP_RANGE, range + 1, 1), NETKAT_REFUSAL_IP_RANGE_WIDTH, 0, 0, 0);
 }
 
 /* The limits: a term of NETKAT_TERM_MAX bytes and 4,096 records, 256 levels, the greatest allowance with its work memory and room. */
@@ -97,6 +122,8 @@ static void limits(void) {
     expect("too deep", netkat_check(term, 2 * NETKAT_MAX_LEVELS), NETKAT_REFUSAL_TOO_DEEP, NETKAT_MAX_LEVELS, 0, 0);
     term[2 * NETKAT_MAX_LEVELS - 2] = 0;
     expect("deepest", netkat_check(term, 2 * NETKAT_MAX_LEVELS - 1), 0, 0, 0, 0);
+
+    literal_limits();
 
     /* 32,767 Sequences, Assigns of 0 to the fields 1 to 32,767 and to field 0 */
     expect("greatest allowance", desugar(wide, sizeof wide, most, n, room), 0, 0, 2 * 32767 + 6 * 32767 + 2, most);

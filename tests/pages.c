@@ -108,6 +108,7 @@ static const struct {
     N(NETKAT_MAX_LEVELS),
     N(NETKAT_MAX_LITERAL_BITS),
     N(NETKAT_MAX_PREFIX),
+    N(NETKAT_MAX_IP_RANGE_FIELDS),
     N(NETKAT_RECORD_MAX),
     N(NETKAT_TERM_MAX),
 };
@@ -282,7 +283,7 @@ static void format(const char *page) {
         check_name(cell[2], value);
         rows++;
     }
-    if (rows != 6) WRONG("%d limits", rows);
+    if (rows != 7) WRONG("%d limits", rows);
 
     rows = 0;
     text = section(page, "## Kinds\n");

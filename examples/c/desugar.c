@@ -15,8 +15,8 @@
 enum { SEGMENT = 1, SERVICE = 2, ALLOWANCE = 1000 };
 
 struct literal {
-    unsigned bits;      /* 0 to 128 */
-    uint64_t low, high; /* the value: its bits 0 to 63, and 64 to 127 */
+    unsigned bits;                                /* 0 to 192 */
+    uint32_t words[NETKAT_MAX_LITERAL_BITS / 32]; /* the value, its lowest 32 bits first */
 };
 
 struct record {
@@ -44,7 +44,7 @@ static void put(struct term *t, uint64_t value, int bytes) {
 static void put_literal(struct term *t, struct literal l) {
     put(t, l.bits, 1);
     for (unsigned at = 0; at < l.bits; at += 8) {
-        uint64_t byte = at < 64 ? l.low >> at : l.high >> (at - 64);
+        uint32_t byte = l.words[at / 32] >> at % 32;
         if (l.bits - at < 8) byte &= (1u << (l.bits - at)) - 1;
         put(t, byte, 1);
     }
@@ -80,9 +80,9 @@ static void put_rule(struct term *t, unsigned service, unsigned bits) {
     put_record(t, (struct record){.kind = NETKAT_KIND_IF_THEN_ELSE});
     put_record(t, (struct record){.kind = NETKAT_KIND_TEST_NEGATION});
     put_record(t, (struct record){.kind = NETKAT_KIND_INTERSECT});
-    struct record guest = {.kind = NETKAT_KIND_VAR_MATCH, .name = SEGMENT, .pattern = NETKAT_PATTERN_CIDR, .number = 1, .a = {4, 8, 0}};
+    struct record guest = {.kind = NETKAT_KIND_VAR_MATCH, .name = SEGMENT, .pattern = NETKAT_PATTERN_CIDR, .number = 1, .a = {4, {8}}};
     put_record(t, guest);
-    put_record(t, (struct record){.kind = NETKAT_KIND_VAR_TEST, .name = SERVICE, .a = {bits, service, 0}});
+    put_record(t, (struct record){.kind = NETKAT_KIND_VAR_TEST, .name = SERVICE, .a = {bits, {service}}});
     put_record(t, (struct record){.kind = NETKAT_KIND_ASSIGN, .start = 8, .number = 1});
     put_record(t, (struct record){.kind = NETKAT_KIND_ZERO});
 }

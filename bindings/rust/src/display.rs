@@ -105,13 +105,14 @@ impl Expr {
     /// | a wildcard with an address of more than 32 bits | `0x0a00000000 mask 0x00000000ff` |
     /// | another wildcard whose address or mask has not 32 bits | `160 mask 0b00011111` |
     /// | a range pattern whose bounds have widths that the syntax cannot say | `0b01-0x3` |
+    /// | a literal of more than 128 bits | `0x00000001_00000000_00000000_00000000_00000002` |
     ///
     /// Other literals are written in decimal where that is read with their width, as an address if they have 32 bits, else in hexadecimal or
-    /// binary digits, as many as they have bits; those of more than 128 bits never in decimal.
+    /// binary digits, as many as they have bits.
     ///
-    /// Literals of 128 bits or more are written for a reader and not for the original's parser. A debug build of it panics there. A release
-    /// build reads zero, and refuses all else but small values of 129 bits or more. Those, below 2 to the power of the width less 128,
-    /// **it takes for others**: the value stands there once more from bit 128 on.
+    /// A literal of 128 bits is written for a reader: a debug build of the original's parser panics there, a release build refuses all but zero.
+    /// One of more bits, which a release build may take for another, has `_` between the digits of 32 bits each, so that the parser
+    /// refuses it.
     ///
     /// The parser may want gigabytes for a value of a direct range that ends below its start. And it recurses: about 1,600 parentheses one in
     /// another are too many for a stack of 8 MB.

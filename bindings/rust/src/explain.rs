@@ -9,7 +9,7 @@ use crate::outline::Outline;
 use crate::{Desugarer, Expr, Field, FormFault, Names, Pattern, Refusal, RefusalKind};
 
 /// How many characters of a part of the policy are shown: room for a match of two literals of 192 bits.
-const SHOWN: usize = 120;
+const SHOWN: usize = 144;
 
 /// How many names in scope are listed.
 const LISTED: usize = 5;

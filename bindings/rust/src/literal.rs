@@ -37,8 +37,8 @@ pub(crate) fn grouped(number: impl Into<u64>) -> String {
 
 /// A literal, written so that it is read with its own width wherever the syntax can say that.
 ///
-/// Beyond a number's bits the notation stays that of shorter ones. The original's parser has no number for these, but its syntax gives a
-/// digit four bits or one at any length, and 48 digits of a label stack are eight for each word.
+/// Beyond a number's bits there is `_` between the digits of 32 bits each, the words of a label stack. The original's parser has no number
+/// for these literals, and takes some of them for others where it reads the digits; it refuses `_`.
 #[derive(Clone, Copy)]
 pub(crate) struct Literal<'a> {
     bits: &'a [bool],
@@ -82,9 +82,12 @@ impl fmt::Display for Literal<'_> {
 
 /// Digits of `size` bits, the highest first; that one may have fewer.
 fn digits(bits: &[bool], size: usize, f: &mut fmt::Formatter<'_>) -> fmt::Result {
-    for digit in bits.chunks(size).rev() {
+    for (i, digit) in bits.chunks(size).enumerate().rev() {
         let digit = digit.iter().rev().fold(0, |digit, bit| digit << 1 | u8::from(*bit));
         write!(f, "{digit:x}")?;
+        if bits.len() > NUMBER_BITS && i > 0 && i * size % 32 == 0 {
+            f.write_str("_")?;
+        }
     }
     Ok(())
 }
@@ -122,8 +125,9 @@ mod tests {
         assert_eq!(text(0, 0, 1), "0b");
         assert_eq!(text(0, 0, 0), "0");
         assert_eq!(text(u128::MAX, 128, 128), u128::MAX.to_string());
-        assert_eq!(text(1, 129, 129), format!("0b{}1", "0".repeat(128)));
-        assert_eq!(text(1, 132, 132), format!("0x{}1", "0".repeat(32)));
+        assert_eq!(text(1, 129, 129), format!("0b0{}1", format!("_{}", "0".repeat(32)).repeat(4).strip_suffix('0').unwrap()));
+        assert_eq!(text(1, 132, 132), "0x0_00000000_00000000_00000000_00000001");
+        assert_eq!(text(u128::MAX, 160, 160), "0x00000000_ffffffff_ffffffff_ffffffff_ffffffff");
     }
 
     #[test]
@@ -131,8 +135,8 @@ mod tests {
         assert_eq!(ValueAndWidth(&bits(5, 3)).to_string(), "5/3");
         assert_eq!(ValueAndWidth(&[]).to_string(), "0/0");
         assert_eq!(ValueAndWidth(&bits(u128::MAX, 128)).to_string(), format!("{}/128", u128::MAX));
-        assert_eq!(ValueAndWidth(&bits(1, 132)).to_string(), format!("0x{}1/132", "0".repeat(32)));
-        assert_eq!(ValueAndWidth(&[true; 129]).to_string(), format!("0x1{}/129", "f".repeat(32)));
+        assert_eq!(ValueAndWidth(&bits(1, 132)).to_string(), "0x0_00000000_00000000_00000000_00000001/132");
+        assert_eq!(ValueAndWidth(&[true; 129]).to_string(), "0x1_ffffffff_ffffffff_ffffffff_ffffffff/129");
     }
 
     #[test]

@@ -101,23 +101,24 @@ fn what_the_syntax_cannot_say() {
 #[test]
 fn long_literals() {
     let text = |width| Expr::var_assign(1, bits(1, width)).to_string();
-    assert_eq!(text(128), format!("n1 := 0x{}1", "0".repeat(31)));
-    assert_eq!(text(129), format!("n1 := 0b{}1", "0".repeat(128)));
-    assert_eq!(text(191), format!("n1 := 0b{}1", "0".repeat(190)));
-    assert_eq!(text(192), format!("n1 := 0x{}1", "0".repeat(47)));
+    let (zeros, one) = ("0".repeat(32), format!("{}1", "0".repeat(31)));
+    assert_eq!(text(128), format!("n1 := 0x{one}"));
+    assert_eq!(text(129), format!("n1 := 0b0_{zeros}_{zeros}_{zeros}_{one}"));
+    assert_eq!(text(191), format!("n1 := 0b{}_{zeros}_{zeros}_{zeros}_{zeros}_{one}", "0".repeat(31)));
+    assert_eq!(text(192), "n1 := 0x00000000_00000000_00000000_00000000_00000000_00000001");
 
     // A direct range gives a decimal number its width, up to 128 bits.
     let text = |width| Expr::bit_range_assign(0, width, bits(1, width as usize)).to_string();
     assert_eq!(text(128), "x[0..128] := 1");
-    assert_eq!(text(129), format!("x[0..129] := 0b{}1", "0".repeat(128)));
-    assert_eq!(text(192), format!("x[0..192] := 0x{}1", "0".repeat(47)));
+    assert_eq!(text(129), format!("x[0..129] := 0b0_{zeros}_{zeros}_{zeros}_{one}"));
+    assert_eq!(text(160), "x[0..160] := 0x00000000_00000000_00000000_00000000_00000001");
 }
 
 /// The digits of a label stack of six words are those of the words.
 #[test]
 fn label_stacks() {
     let stack = || bits_of_words(&[0x10040, 0x11040, 0x12040, 0x13040, 0x14040, 0x15140]);
-    let digits = "0x000100400001104000012040000130400001404000015140";
+    let digits = "0x00010040_00011040_00012040_00013040_00014040_00015140";
     let text = |pattern| Expr::bit_range_match(0, 192, pattern).to_string();
     assert_eq!(Expr::bit_range_test(0, 192, stack()).to_string(), format!("x[0..192] ~ {digits}"));
     assert_eq!(text(Pattern::Exact(stack())), format!("x[0..192] ~ {digits}"));
@@ -126,7 +127,7 @@ fn label_stacks() {
     let mask = bits_of_words(&[0, 0xfff, u32::MAX, 0, 0, 0]);
     assert_eq!(
         text(Pattern::Wildcard { address: stack(), mask }),
-        format!("x[0..192] ~ {digits} mask 0x0000000000000fffffffffff{}", "0".repeat(24))
+        format!("x[0..192] ~ {digits} mask 0x00000000_00000fff_ffffffff_00000000_00000000_00000000")
     );
     // Where the width is not the range's it is said, and the digits are hexadecimal at any width.
     assert_eq!(Expr::bit_range_assign(0, 160, stack()).to_string(), format!("x[0..160] := {digits}/192"));

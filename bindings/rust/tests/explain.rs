@@ -167,7 +167,7 @@ fn stack() -> Vec<bool> {
     bits_of_words(&[0x10040, 0x11040, 0x12040, 0x13040, 0x14040, 0x15140])
 }
 
-const STACK: &str = "0x000100400001104000012040000130400001404000015140";
+const STACK: &str = "0x00010040_00011040_00012040_00013040_00014040_00015140";
 
 fn five_words(body: Exp) -> Exp {
     Expr::let_bit_range(A, 0, 160, body)
@@ -208,7 +208,7 @@ fn widths_of_long_patterns() {
     case(
         Expr::bit_range_match(0, 160, Pattern::Wildcard { address: stack(), mask: mask() }),
         "the wildcard's address has 192 bits and its mask has 192 bits, but x[0..160] has 160 fields (record 0, refusal 19)",
-        &format!("x[0..160] ~ {STACK} mask 0x{}{}", "0".repeat(24), "f".repeat(24)),
+        &format!("x[0..160] ~ {STACK} mask 0x00000000_00000000_00000000_ffffffff_ffffffff_ffffffff"),
     );
 }
 
@@ -220,7 +220,7 @@ fn wide_range_patterns() {
         range(192, 192, 192),
         "x[0..192] has 192 fields, and a range pattern, here with bounds of 192 and 192 bits, can be matched against 128 at most \
          (record 0, refusal 20)",
-        &format!("x[0..192] ~ 0x{}1-0x{}{}", "0".repeat(47), "0".repeat(16), "f".repeat(32)),
+        "x[0..192] ~ 0x00000000_00000000_00000000_00000000_00000000_00000001-0x00000000_00000000_ffffffff_ffffffff_ffffffff_ffffffff",
     );
     case(
         range(129, 128, 0),
@@ -231,7 +231,7 @@ fn wide_range_patterns() {
     case(
         range(128, 132, 128),
         "the start of the range pattern has 132 bits and its end has 128 bits, but x[0..128] has 128 fields (record 0, refusal 20)",
-        &format!("x[0..128] ~ 0x{}1-0x{}", "0".repeat(32), "f".repeat(32)),
+        &format!("x[0..128] ~ 0x0_00000000_00000000_00000000_00000001-0x{}", "f".repeat(32)),
     );
     let facts = "the start of the range pattern has 128 bits and its end has 129 bits, but x[0..128] has 128 fields (record 0, refusal 20)";
     assert_eq!(explained(&range(128, 128, 129)).lines().next(), Some(facts));
@@ -268,7 +268,7 @@ fn long_parts_are_shortened() {
     let long = Expr::test_negation(Expr::union_all((0..60).map(|field| Expr::assign(field, true))));
     let text = explained(&long);
     let part = text.lines().last().unwrap().strip_prefix("  in: ").unwrap();
-    assert_eq!(part.chars().count(), 121, "{text}");
+    assert_eq!(part.chars().count(), 145, "{text}");
     assert!(part.starts_with("!(x0 := 1 + x1 := 1") && part.ends_with('…'), "{text}");
 }
 
@@ -313,12 +313,12 @@ fn literals_beyond_the_limit() {
     case(
         Expr::bit_range_test(0, 193, bits(0, 193)),
         "the value has 193 bits, and 192 are the limit (record 0, refusal 5)",
-        &format!("x[0..193] ~ 0b{}…", "0".repeat(106)),
+        &format!("x[0..193] ~ 0b0{}_{}…", format!("_{}", "0".repeat(32)).repeat(3), "0".repeat(29)),
     );
     case(
         Expr::bit_range_match(0, 196, Pattern::Cidr { address: bits(1, 196), prefix_len: 96 }),
         "the CIDR address has 196 bits, and 192 are the limit (record 0, refusal 5)",
-        &format!("x[0..196] ~ 0x{}1/96", "0".repeat(48)),
+        "x[0..196] ~ 0x0_00000000_00000000_00000000_00000000_00000000_00000001/96",
     );
 }
 
@@ -327,7 +327,7 @@ fn form() {
     case(
         Expr::union(Expr::one(), Expr::var_test(A, bits(0, 1_129))),
         &format!("the value has 1,129 bits, and {MAX_LITERAL_BITS} are the limit (record 2, refusal 5)"),
-        &format!("a ~ 0b{}…", "0".repeat(114)),
+        &format!("a ~ 0b{}{}_{}…", "0".repeat(9), format!("_{}", "0".repeat(32)).repeat(3), "0".repeat(29)),
     );
     let long = || bits(0, 200);
     let facts = |pattern: Pattern| explained(&matched(pattern)).lines().next().unwrap().to_owned();
