@@ -1,5 +1,5 @@
-//! Random inputs: terms with many scopes, short literals, small widths, nested negations and ifs; in some terms literals of 129 to 192 bits;
-//! damaged encodings; random bytes; inputs at the limits. Everything follows from one 64-bit seed.
+//! Random inputs: terms with many scopes, short literals, small widths, nested negations and ifs, some with literals of 129 to 192
+//! bits; damaged encodings; random bytes; inputs at the limits. Everything follows from one 64-bit seed.
 use crate::model::*;
 
 #[derive(Clone)]
@@ -78,7 +78,11 @@ impl<'a> Gen<'a> {
         if self.slips() {
             return *self.r.pick(&[193, 193, 200, 255, 256]);
         }
-        if self.r.pct(70) { *self.r.pick(&[129, 160, 191, 192, 192]) } else { 129 + self.r.below(64) as u32 }
+        if self.r.pct(70) {
+            *self.r.pick(&[129, 129, 160, 191, 192, 192])
+        } else {
+            129 + self.r.below(64) as u32
+        }
     }
     fn width(&mut self) -> u32 {
         if self.long && self.r.pct(40) {
@@ -209,7 +213,11 @@ impl<'a> Gen<'a> {
         }
     }
     fn bound_len(&mut self, w: u32) -> usize {
-        if self.long && self.slips() { self.long_width().min(MAX_LITERAL as u32) as usize } else { self.short_len(w) }
+        if self.long && self.slips() {
+            self.long_width().min(MAX_LITERAL as u32) as usize
+        } else {
+            self.short_len(w)
+        }
     }
     /// The bounds of a range pattern.
     fn bounds(&mut self, n: &mut Node, w: u32) {
@@ -462,7 +470,7 @@ impl<'a> Gen<'a> {
 
 /// A random term of up to about `budget` records.
 pub fn term(r: &mut Rng, max_budget: i64) -> Node {
-    let long = r.pct(15);
+    let long = r.pct(18);
     let slip = if long { *r.pick(&[0u64, 0, 20, 60, 150]) } else { *r.pick(&[0, 0, 0, 0, 5, 20, 20, 60, 150]) };
     let budget = 1 + r.below(max_budget as u64) as i64;
     let depth = 1 + r.below(if max_budget > 100 { 22 } else { 9 }) as u32;

@@ -75,8 +75,8 @@ fn on_large_stack<T: Send + 'static>(f: impl FnOnce() -> T + Send + 'static) -> 
 }
 
 fn main() {
-    // No message for two panics of the original's expr.rs: num_fields where document 01 has refusal 25, and a literal beyond a u128 that is
-    // shown in a build that checks overflow. compare.rs judges both.
+    // No message for two panics of the original: num_fields where document 01 has refusal 25, and a literal beyond a u128 that is shown
+    // where overflow is checked. compare.rs judges both.
     let hook = std::panic::take_hook();
     std::panic::set_hook(Box::new(move |info| {
         let known = ["Field count overflow", "shift left with overflow"].iter().any(|text| info.to_string().contains(text));
