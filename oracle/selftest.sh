@@ -115,6 +115,9 @@ original "129 bits allowed" desugar \
 original "wildcard up to 128 bits" desugar \
     'for i in 0..width {' \
     'for i in 0..width.min(128) {'
+original "panic beyond 128 bits" desugar \
+    'if *prefix_len == 0 {' \
+    'if width > 128 && *prefix_len == width { panic!("no room"); } if *prefix_len == 0 {'
 original "condition judged first" desugar \
     'let d_then = desugar_with_env(then_expr, env)?;' \
     'if !d_cond.is_test_fragment() { return Err(DesugarError { message: "If-then-else condition must".into() }); } let d_then = desugar_with_env(then_expr, env)?;'

@@ -53,6 +53,9 @@ impl LongLiterals {
         let mut refused = self.answers.clone();
         let cores = refused.remove(&0).unwrap_or(0);
         let inputs = cores + refused.values().sum::<u64>();
+        if inputs + self.beyond == 0 {
+            return;
+        }
         println!("  literals of 129 to 192 bits: {inputs} inputs, {cores} cores, refusals {refused:?}; of more bits: {}", self.beyond);
         println!("  literals of 129 to 192 bits in kinds 21 to 24, patterns 0 to 3: {:?}", self.forms);
     }
@@ -234,7 +237,7 @@ impl Stats {
                 if panics {
                     self.count(&format!("original desugar compared: refusal {refusal}: panics, as overflow is checked"));
                 }
-                let expected = if panics { original::PANIC } else { *refusal };
+                let expected = if panics { original::SHIFT_PANIC } else { *refusal };
                 self.expect(number == expected, "ORIGINAL desugar: refusals", || format!("{input} model {refusal}, {message}"));
             }
             (Ok(_), Err(e)) => self.differs("ORIGINAL accepts, model refuses", 1, format!("{input} {e:?}")),

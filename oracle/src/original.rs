@@ -5,8 +5,8 @@ use std::panic::{catch_unwind, UnwindSafe};
 
 /// Whether overflow panics in this build (Cargo.toml's profiles).
 pub const CHECKED: bool = cfg!(debug_assertions);
-/// Stands for a refusal's number where the original panics.
-pub const PANIC: u32 = u32::MAX;
+/// Stands for a refusal's number where the original panics as it shows a literal.
+pub const SHIFT_PANIC: u32 = 1000;
 
 pub fn name(n: u16) -> String {
     format!("n{n}")
@@ -239,7 +239,7 @@ pub fn write_core(e: &Expr, out: &mut Vec<u8>) {
     }
 }
 
-/// Document 01's number for a message of the original; 0 for one that should never come.
+/// Document 01's number for a message of the original; 0 for one that should never come, a panic among them.
 pub fn number(message: &str) -> u32 {
     let starts = |p: &str| message.starts_with(p);
     if starts("Unknown alias '") {
@@ -268,6 +268,8 @@ pub fn number(message: &str) -> u32 {
         22
     } else if starts("If-then-else condition must") {
         23
+    } else if message == "panics: attempt to shift left with overflow" {
+        SHIFT_PANIC
     } else {
         0
     }
@@ -285,11 +287,12 @@ fn caught<T>(call: impl FnOnce() -> T + UnwindSafe) -> Result<T, String> {
 /// The core, or a number and the message.
 pub fn desugar(n: &Node) -> Result<Vec<u8>, (u32, String)> {
     let e = to_expr(n);
-    match caught(|| crate::desugar::desugar(&e)) {
-        Ok(Ok(c)) => Ok(expr_bytes(&c)),
-        Ok(Err(m)) => Err((number(&m.message), m.message)),
-        Err(panic) => Err((PANIC, panic)),
-    }
+    let message = match caught(|| crate::desugar::desugar(&e)) {
+        Ok(Ok(c)) => return Ok(expr_bytes(&c)),
+        Ok(Err(e)) => e.message,
+        Err(panic) => panic,
+    };
+    Err((number(&message), message))
 }
 
 /// Whether a message that shows this term panics in a build that checks overflow: the original shows a literal by `1 << i`, as a u128.

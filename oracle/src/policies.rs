@@ -198,16 +198,18 @@ fn below_lets(levels: u32, over: fn(Node) -> Node) -> Node {
     (0..levels).fold(wide_test(30_000), |inner, _| over(let_in(FIRST_VARIABLE, node(ONE, vec![]), inner)))
 }
 
+/// The same access list with literals of 192 bits and by words of 32.
+pub fn label_stack_pair() -> [(String, Vec<u8>); 2] {
+    [("label stacks, 100 of 192 bits", label_stacks(100, on_stack)), ("label stacks, 100 by words", label_stacks(100, on_words))]
+        .map(|(name, tree)| (name.to_string(), encoded(&tree)))
+}
+
 pub fn all() -> Vec<(String, Vec<u8>)> {
-    [
-        ("access list, 200 entries", access_list(200)),
-        ("first match, 40 rules", first_match(40)),
-        ("tenant isolation", tenants(24)),
-        ("label stacks, 100 of 192 bits", label_stacks(100, on_stack)),
-        ("label stacks, 100 by words", label_stacks(100, on_words)),
-    ]
-    .map(|(name, tree)| (name.to_string(), encoded(&tree)))
-    .into()
+    [("access list, 200 entries", access_list(200)), ("first match, 40 rules", first_match(40)), ("tenant isolation", tenants(24))]
+        .map(|(name, tree)| (name.to_string(), encoded(&tree)))
+        .into_iter()
+        .chain(label_stack_pair())
+        .collect()
 }
 
 /// One test, and access lists of about 3,500 and 43,000 nodes, with ranges and without.
