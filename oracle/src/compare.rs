@@ -31,7 +31,7 @@ pub struct Stats {
 /// Inputs with a literal of 129 to 192 bits.
 #[derive(Default)]
 struct LongLiterals {
-    /// How many inputs have one, by the number of the port's Desugar, 0 for a core.
+    /// How many inputs have one, by Desugar's number, 0 for a core.
     answers: BTreeMap<u32, u64>,
     /// How many such literals the terms of good form have: kinds 21 to 24, then patterns 0 to 3.
     forms: [u64; 8],

@@ -305,9 +305,13 @@ pub fn text(e: &Expr) -> String {
     caught(|| e.to_string()).unwrap_or_else(|panic| panic)
 }
 
-/// None where `num_fields` panics.
+/// None where `num_fields` panics because a field has no successor.
 pub fn fields(e: &Expr) -> Option<u32> {
-    caught(|| e.num_fields()).ok()
+    match caught(|| e.num_fields()) {
+        Ok(count) => Some(count),
+        Err(panic) if panic == "panics: Field count overflow" => None,
+        Err(panic) => panic!("num_fields {panic}"),
+    }
 }
 
 pub fn subrange(a: u32, b: u32, s: u32, e: u32) -> Option<(u32, u32)> {
