@@ -8,9 +8,11 @@ here=$(dirname "$0")
 SEED=${SEED:-1} COUNT=${COUNT:-300000} THREADS=${THREADS:-1}
 
 cargo build --release --offline --quiet --target-dir "$target" || exit 2
+cargo build --profile checked --offline --quiet --target-dir "$target" || exit 2
 oracle=$target/release/oracle
+checked=$target/checked/oracle
 sample=$target/sample.txt
-vectors="vectors/operations.txt vectors/program.txt ../tests/probes.txt"
+vectors="vectors/operations.txt vectors/long_literals.txt vectors/program.txt ../tests/probes.txt"
 
 differences=0
 step() {
@@ -26,5 +28,8 @@ step "$oracle" meaning "$SEED" $((COUNT / 3))
 "$oracle" sample "$SEED" $((COUNT / 10)) 30 > "$sample" || differences=1
 step "$oracle" replay "$sample"
 step python3 second.py "$sample"
+# overflow checked, in the model and in the original
+step "$checked" replay $vectors
+step "$checked" compare $((SEED + 2)) $((COUNT / 5)) 40 "$THREADS"
 [ $differences = 0 ] && echo "NO DIFFERENCE" || echo "DIFFERENCES"
 exit $differences

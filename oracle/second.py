@@ -9,6 +9,8 @@ import sys
 ARITY = [0] * 7 + [2] * 6 + [1] * 4 + [3, 2, 1] + [0] * 7
 BITS = {5: (2, 5), 6: (2, 5), 18: (1,), 19: (1, 2, 3), 20: (1,), 21: (1, 6), 22: (1, 6), 23: (2, 3, 6), 24: (2, 3, 6),
         25: (2, 3, 4, 5, 6, 7), 26: (1, 4, 5, 6, 7)}
+MAX_LITERAL = 192
+MAX_RANGE_BITS = 128
 
 
 class No(Exception):
@@ -92,7 +94,7 @@ def form(data, base=0):
                 length = need(1)[0]
                 if length == 0:
                     no(base + 4, place)
-                if length > 128:
+                if length > MAX_LITERAL:
                     no(base + 5, place)
                 v = int.from_bytes(need(-(-length // 8)), "little")
                 if v >> length:
@@ -230,7 +232,7 @@ def leaf_rule(r, s, e):
         t = [(6, s + i, bit(va, i)) for i in range(w) if not bit(vb, i)]
         return (max(1, 2 * len(t) - 1), lambda: chain(8, t))
     else:
-        if w > 128 or la > w or lb > w:
+        if w > MAX_RANGE_BITS or la > w or lb > w:
             return 20
         if va > vb:
             return 21

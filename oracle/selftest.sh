@@ -1,5 +1,6 @@
 #!/bin/sh
-# Does the comparison see a fault? Puts one fault at a time into a copy of the original, then of the port, and wants a difference reported.
+# Does the comparison see a fault? Puts one fault at a time into a copy of the original, then of the port, then of the model, and wants a
+# difference reported.
 # Needs ORACLE_SEEDS (see run.sh), target/staticlib/libnetkat.a, cc, ar and objcopy. ONLY=NAME tries one fault.
 if [ ! -d "${ORACLE_SEEDS:-}" ]; then
     echo "selftest.sh: set ORACLE_SEEDS to the folder that holds the original's expr.rs and desugar.rs" >&2
@@ -8,8 +9,8 @@ fi
 true_seeds=$(cd "$ORACLE_SEEDS" && pwd)
 cd "$(dirname "$0")" || exit 2
 top=$(cd .. && pwd)/target/selftest
-seeds=$top/seeds library=$top/library report=$top/report.txt
-mkdir -p "$seeds" "$library"
+seeds=$top/seeds library=$top/library copy=$top/copy report=$top/report.txt
+mkdir -p "$seeds" "$library" "$copy"
 seen=0 missed=0
 
 miss() {
@@ -17,9 +18,22 @@ miss() {
     missed=$((missed + 1))
 }
 
-# fault NAME PATTERN: builds, compares, and wants a line DIFFERENCE with the pattern, or the end of the process by a fault
+# replace FILE OLD NEW: the first OLD becomes NEW
+replace() {
+    python3 - "$@" <<'END'
+import sys
+path, old, new = sys.argv[1:]
+text = open(path).read()
+if old not in text:
+    sys.exit(1)
+open(path, "w").write(text.replace(old, new, 1))
+END
+}
+
+# fault NAME PATTERN [FOLDER]: builds, compares, and wants a line DIFFERENCE with the pattern, or the end of the process by a fault
 fault() {
-    cargo build --release --offline --quiet --target-dir "$top" 2> "$report" || { miss "$1: no build"; return; }
+    cargo build --manifest-path "${3:-.}/Cargo.toml" --release --offline --quiet --target-dir "$top" 2> "$report" ||
+        { miss "$1: no build"; return; }
     if "$top/release/oracle" compare 5 "${COUNT:-30000}" 40 1 > "$report" 2>&1; then
         miss "$1"
     elif grep -q "DIFFERENCE $2" "$report"; then
@@ -39,14 +53,7 @@ original() {
     for f in expr desugar; do
         cp "$true_seeds/$f.rs" "$seeds/$f.rs" 2> /dev/null || cp "$true_seeds/src--src--$f.rs.txt" "$seeds/$f.rs" || exit 2
     done
-    python3 - "$seeds/$2.rs" "$3" "$4" <<'END' || { miss "$1: not in the original"; return; }
-import sys
-path, old, new = sys.argv[1:]
-text = open(path).read()
-if old not in text:
-    sys.exit(1)
-open(path, "w").write(text.replace(old, new, 1))
-END
+    replace "$seeds/$2.rs" "$3" "$4" || { miss "$1: not in the original"; return; }
     ORACLE_SEEDS=$seeds fault "$1" ORIGINAL
 }
 
@@ -57,6 +64,15 @@ port() {
         cc -Wall -O1 -I../include -D"$1" -c faulty.c -o "$top/faulty.o" &&
         ar r "$library/libnetkat.a" "$top/faulty.o" || { miss "$1: no library"; return; }
     NETKAT_LIB_DIR=$library fault "$1" PORT
+}
+
+# model NAME PATTERN OLD NEW: a copy of this folder in which the first OLD of model.rs becomes NEW
+model() {
+    [ -z "$ONLY" ] || [ "$ONLY" = "$1" ] || return
+    rm -rf "$copy/oracle" && mkdir "$copy/oracle" && cp -R Cargo.toml Cargo.lock build.rs seeds.rs src "$copy/oracle" &&
+        ln -sfn "$(cd ../bindings && pwd)" "$copy/bindings" || exit 2
+    replace "$copy/oracle/src/model.rs" "$3" "$4" || { miss "$1: not in the model"; return; }
+    NETKAT_LIB_DIR=$(cd ../target/staticlib && pwd) fault "$1" "$2" "$copy/oracle"
 }
 
 original "left One first" desugar \
@@ -96,6 +112,12 @@ original "no single value case" desugar \
 original "129 bits allowed" desugar \
     '|| width > 128 {' \
     '|| width > 129 {'
+original "wildcard up to 128 bits" desugar \
+    'for i in 0..width {' \
+    'for i in 0..width.min(128) {'
+original "panic beyond 128 bits" desugar \
+    'if *prefix_len == 0 {' \
+    'if width > 128 && *prefix_len == width { panic!("no room"); } if *prefix_len == 0 {'
 original "condition judged first" desugar \
     'let d_then = desugar_with_env(then_expr, env)?;' \
     'if !d_cond.is_test_fragment() { return Err(DesugarError { message: "If-then-else condition must".into() }); } let d_then = desugar_with_env(then_expr, env)?;'
@@ -137,6 +159,16 @@ port ALWAYS_A_TEST check
 port WRONG_RESULT substitute
 port NEVER_25 num_fields
 port WRONG_END compute_subrange
+
+model "literals of 193 bits" PORT \
+    'if len > MAX_LITERAL {' \
+    'if len > 193 {'
+model "literals of 128 bits at most" PORT \
+    'if len > MAX_LITERAL {' \
+    'if len > 128 {'
+model "range patterns on 192 bits" PORT \
+    'if width > MAX_RANGE_BITS ||' \
+    'if width > 192 ||'
 
 echo "$seen seen, $missed missed"
 [ $missed = 0 ]

@@ -95,11 +95,36 @@ pub fn quartiles(mut v: Vec<f64>) -> [f64; 3] {
     [1, 2, 3].map(|q| v[(v.len() - 1) * q / 4])
 }
 
+/// Median (lower quartile to upper quartile).
+fn spread(ratios: Vec<f64>) -> String {
+    let [low, median, high] = quartiles(ratios);
+    format!("{median:.3} ({low:.3} to {high:.3})")
+}
+
+/// How many calls to time together.
+fn calls_of(p: &Policy, what: usize, b: &mut Buffers) -> usize {
+    (BATCH_MICROSECONDS / measure(p, what, 2, b)).ceil().clamp(1.0, 5000.0) as usize
+}
+
+/// The time of one policy over that of another, in the same rounds; every other round goes in the opposite order.
+fn beside(p: &Policy, other: &Policy, what: usize, b: &mut Buffers) -> String {
+    let calls = calls_of(other, what, b);
+    let mut ratios = Vec::new();
+    for round in 0..ROUNDS {
+        let mut times = [0.0; 2];
+        for i in if round % 2 == 0 { [0, 1] } else { [1, 0] } {
+            times[i] = measure([p, other][i], what, calls, b);
+        }
+        ratios.push(times[0] / times[1]);
+    }
+    spread(ratios)
+}
+
 /// Rounds of all that is timed; every other round goes in the opposite order.
 fn rounds(p: &Policy, b: &mut Buffers) -> Vec<[f64; TIMED]> {
     let mut calls = [0; TIMED];
     for what in 0..TIMED {
-        calls[what] = (BATCH_MICROSECONDS / measure(p, what, 2, b)).ceil().clamp(1.0, 5000.0) as usize;
+        calls[what] = calls_of(p, what, b);
     }
     let mut all = Vec::new();
     for round in 0..ROUNDS {
@@ -111,6 +136,24 @@ fn rounds(p: &Policy, b: &mut Buffers) -> Vec<[f64; TIMED]> {
         all.push(times);
     }
     all
+}
+
+/// The policy's line of the table.
+fn row(p: &Policy, b: &mut Buffers) {
+    let all = rounds(p, b);
+    let time = |what: usize| {
+        let median = quartiles(all.iter().map(|t| t[what]).collect())[1];
+        if median < 10.0 { format!("{median:.2}") } else { format!("{median:.0}") }
+    };
+    let ratio = |what: usize, over: usize| spread(all.iter().map(|t| t[what] / t[over]).collect());
+    let large = p.nodes >= MANY_NODES;
+    let copy = if large { time(COPY) } else { "-".into() };
+    let copies = if large { ratio(PORT, COPY) } else { "-".into() };
+    println!(
+        "| {} | {} | {} | {} | {} | {} | {} | {} | {} | {copy} | {} | {} | {copies} | {} |",
+        p.name, p.term.len(), p.core_len, p.nodes, p.drawn, time(PORT), time(ORIGINAL), time(BARE), time(CHECK),
+        ratio(PORT, ORIGINAL), ratio(PORT, BARE), ratio(CHECK, PORT)
+    );
 }
 
 pub fn run(folder: &str) -> bool {
@@ -129,25 +172,11 @@ pub fn run(folder: &str) -> bool {
     );
     println!("|{}", "---|".repeat(14));
     for (name, term) in load(folder) {
-        let p = prepare(name, term, &mut b);
-        let all = rounds(&p, &mut b);
-        let time = |what: usize| {
-            let median = quartiles(all.iter().map(|t| t[what]).collect())[1];
-            if median < 10.0 { format!("{median:.2}") } else { format!("{median:.0}") }
-        };
-        let ratio = |what: usize, over: usize| {
-            let [low, median, high] = quartiles(all.iter().map(|t| t[what] / t[over]).collect());
-            format!("{median:.3} ({low:.3} to {high:.3})")
-        };
-        let large = p.nodes >= MANY_NODES;
-        let copy = if large { time(COPY) } else { "-".into() };
-        let copies = if large { ratio(PORT, COPY) } else { "-".into() };
-        println!(
-            "| {} | {} | {} | {} | {} | {} | {} | {} | {} | {copy} | {} | {} | {copies} | {} |",
-            p.name, p.term.len(), p.core_len, p.nodes, p.drawn, time(PORT), time(ORIGINAL), time(BARE), time(CHECK),
-            ratio(PORT, ORIGINAL), ratio(PORT, BARE), ratio(CHECK, PORT)
-        );
+        row(&prepare(name, term, &mut b), &mut b);
     }
+    let [long, words] = policies::label_stack_pair().map(|(name, term)| prepare(name, term, &mut b));
+    let [port, original, check] = [PORT, ORIGINAL, CHECK].map(|what| beside(&long, &words, what, &mut b));
+    println!("\n{} / {}: port {port}, original {original}, check {check}", long.name, words.name);
     true
 }
 

@@ -15,6 +15,8 @@ const MOST_WORK: u64 = 3_000_000;
 const MOST_COPIED: u64 = 30_000_000;
 /// No limit on an answer buffer, for the model.
 const ANY_LENGTH: u64 = u64::MAX;
+/// Literals of more bits than this are counted apart.
+const SHORT: usize = u128::BITS as usize;
 
 /// What was compared, and what differed, with the shortest input for each kind of difference.
 #[derive(Default)]
@@ -22,7 +24,57 @@ pub struct Stats {
     inputs: u64,
     counts: BTreeMap<String, u64>,
     records: [u64; 27],
+    long_literals: LongLiterals,
     differences: BTreeMap<String, (u64, String)>,
+}
+
+/// Inputs with a literal of 129 to 192 bits.
+#[derive(Default)]
+struct LongLiterals {
+    /// How many inputs have one, by Desugar's number, 0 for a core.
+    answers: BTreeMap<u32, u64>,
+    /// How many such literals the terms of good form have: kinds 21 to 24, then patterns 0 to 3.
+    forms: [u64; 8],
+    /// How many inputs are refused for a literal of more bits.
+    beyond: u64,
+}
+
+impl LongLiterals {
+    fn merge(&mut self, other: LongLiterals) {
+        for (number, n) in other.answers {
+            *self.answers.entry(number).or_default() += n;
+        }
+        for (sum, n) in self.forms.iter_mut().zip(other.forms) {
+            *sum += n;
+        }
+        self.beyond += other.beyond;
+    }
+    fn print(&self) {
+        let mut refused = self.answers.clone();
+        let cores = refused.remove(&0).unwrap_or(0);
+        let inputs = cores + refused.values().sum::<u64>();
+        if inputs + self.beyond == 0 {
+            return;
+        }
+        println!("  literals of 129 to 192 bits: {inputs} inputs, {cores} cores, refusals {refused:?}; of more bits: {}", self.beyond);
+        println!("  literals of 129 to 192 bits in kinds 21 to 24, patterns 0 to 3: {:?}", self.forms);
+    }
+    fn count(&mut self, bytes: &[u8], number: u32) {
+        match longest_literal(bytes) {
+            0..=SHORT => {}
+            ..=MAX_LITERAL => *self.answers.entry(number).or_default() += 1,
+            _ => self.beyond += 1,
+        }
+    }
+    fn count_forms(&mut self, n: &Node) {
+        let long = [&n.a, &n.b].iter().filter(|bits| bits.len() > SHORT).count() as u64;
+        match n.kind {
+            VARASSIGN..=RANGETEST => self.forms[(n.kind - VARASSIGN) as usize] += long,
+            RANGEMATCH | VARMATCH => self.forms[4 + n.pat as usize] += long,
+            _ => {}
+        }
+        n.kids.iter().for_each(|k| self.count_forms(k));
+    }
 }
 
 impl Stats {
@@ -52,6 +104,7 @@ impl Stats {
         for (sum, n) in self.records.iter_mut().zip(other.records) {
             *sum += n;
         }
+        self.long_literals.merge(other.long_literals);
         for (what, (times, detail)) in other.differences {
             self.differs(&what, times, detail);
         }
@@ -63,6 +116,7 @@ impl Stats {
             println!("  {what}: {n}");
         }
         println!("  records of kinds 0 to 26: {:?}", self.records);
+        self.long_literals.print();
         for (what, (times, detail)) in &self.differences {
             println!("DIFFERENCE {what}: {times} times, shortest {detail}");
         }
@@ -106,6 +160,7 @@ impl Stats {
         let input = hex(bytes);
         self.count("form good");
         count_kinds(tree, &mut self.records);
+        self.long_literals.count_forms(tree);
         self.expect(encoded(tree) == bytes, "model: encode of decode", || input.clone());
         self.expect(size_depth(tree).0 == records as u64, "model: record count", || input.clone());
 
@@ -176,9 +231,14 @@ impl Stats {
                 self.count("original desugar compared: core");
                 self.expect(bytes == core_bytes(core), "ORIGINAL desugar: cores", || format!("{input} original {}", hex(&bytes)));
             }
-            (Err((number, message)), Err((expected, _))) => {
-                self.count(&format!("original desugar compared: refusal {expected}"));
-                self.expect(number == *expected, "ORIGINAL desugar: refusals", || format!("{input} model {expected}, {message}"));
+            (Err((number, message)), Err((refusal, place))) => {
+                self.count(&format!("original desugar compared: refusal {refusal}"));
+                let panics = original::CHECKED && matches!(refusal, 22 | 23) && original::shown_beyond_u128(&at(tree, *place).kids[0]);
+                if panics {
+                    self.count(&format!("original desugar compared: refusal {refusal}: panics, as overflow is checked"));
+                }
+                let expected = if panics { original::SHIFT_PANIC } else { *refusal };
+                self.expect(number == expected, "ORIGINAL desugar: refusals", || format!("{input} model {refusal}, {message}"));
             }
             (Ok(_), Err(e)) => self.differs("ORIGINAL accepts, model refuses", 1, format!("{input} {e:?}")),
             (Err((_, message)), Ok(_)) => self.differs("ORIGINAL refuses, model accepts", 1, format!("{input} {message}")),
@@ -263,6 +323,7 @@ impl Stats {
             Ok(_) => "port desugar compared: core".to_string(),
             Err((n, _)) => format!("port desugar compared: refusal {n:02}"),
         });
+        self.long_literals.count(bytes, answer.as_ref().err().map_or(0, |e| e.0));
         let lent = format!("{input} allowance {allowance} work {work} out {out}");
         self.same("PORT desugar", &lent, answer, port::desugar(bytes, allowance, work, out));
         self.same("PORT check", &input, model::check(bytes), port::check(bytes));
@@ -313,6 +374,15 @@ fn bindings(n: &Node) -> u64 {
     (n.kind == LET || n.kind == LETRANGE) as u64 + n.kids.iter().map(bindings).sum::<u64>()
 }
 
+/// The term at a place.
+fn at(n: &Node, place: u32) -> &Node {
+    // the last child that does not begin behind it
+    match n.kids.iter().rev().find(|k| k.place <= place) {
+        Some(kid) => at(kid, place),
+        None => n,
+    }
+}
+
 /// The first Assign or Test of the highest field number, in written order.
 fn first_top_field(n: &Node) -> Option<u32> {
     if (n.kind == ASSIGN || n.kind == TEST) && n.start == u32::MAX {
@@ -353,7 +423,7 @@ pub fn show(bytes: &[u8]) -> bool {
     println!("model desugar  {:?}", model::desugar(bytes, 65535, work_needed(65535), ANY_LENGTH).map(show));
     println!("port desugar   {:?}", port::desugar(bytes, 65535, work_needed(65535), 7 * 65535).map(show));
     if let Ok((tree, _)) = decode(bytes) {
-        println!("original       {}", original::to_expr(&tree));
+        println!("original       {}", original::text(&original::to_expr(&tree)));
         println!("its desugar    {:?}", original::desugar(&tree).map(|core| hex(&core)));
     }
     let mut stats = Stats::default();

@@ -1,5 +1,5 @@
-//! Random inputs: terms with many scopes, short literals, small widths, nested negations and ifs; damaged encodings; random bytes;
-//! inputs at the limits. Everything follows from one 64-bit seed.
+//! Random inputs: terms with many scopes, short literals, small widths, nested negations and ifs, some with literals of 129 to 192
+//! bits; damaged encodings; random bytes; inputs at the limits. Everything follows from one 64-bit seed.
 use crate::model::*;
 
 #[derive(Clone)]
@@ -46,6 +46,8 @@ pub struct Gen<'a> {
     /// records that may still be made, roughly
     pub budget: i64,
     pub wide: bool,
+    /// many widths of 129 to 192 fields, beyond a u128
+    pub long: bool,
     /// fields 0 to 5 only
     pub small: bool,
     vars: Vec<(u16, bool)>,
@@ -53,10 +55,12 @@ pub struct Gen<'a> {
 }
 
 const NAMES: [u16; 6] = [0, 1, 2, 3, 1, 2];
+/// Literal lengths around the limits, as a length byte.
+const LENGTHS: [u8; 10] = [127, 128, 129, 130, 191, 192, 193, 194, 200, 255];
 
 impl<'a> Gen<'a> {
     pub fn new(r: &'a mut Rng, slip: u64, budget: i64, wide: bool) -> Self {
-        Gen { r, slip, budget, wide, small: false, vars: vec![], aliases: vec![] }
+        Gen { r, slip, budget, wide, long: false, small: false, vars: vec![], aliases: vec![] }
     }
     fn slips(&mut self) -> bool {
         let s = self.slip;
@@ -69,7 +73,21 @@ impl<'a> Gen<'a> {
             *self.r.pick(&NAMES)
         }
     }
+    /// 129 to 192, and beyond where it may break a rule: a literal of that length has no good form.
+    fn long_width(&mut self) -> u32 {
+        if self.slips() {
+            return *self.r.pick(&[193, 193, 200, 255, 256]);
+        }
+        if self.r.pct(70) {
+            *self.r.pick(&[129, 129, 160, 191, 192, 192])
+        } else {
+            129 + self.r.below(64) as u32
+        }
+    }
     fn width(&mut self) -> u32 {
+        if self.long && self.r.pct(40) {
+            return self.long_width();
+        }
         match self.r.below(100) {
             0..=9 => 0,
             10..=24 => 1,
@@ -130,14 +148,20 @@ impl<'a> Gen<'a> {
     }
     /// A literal length near w, exact unless it slips.
     fn exact_len(&mut self, w: u32) -> usize {
-        let mut l = w.min(128) as i64;
+        let mut l = w.min(MAX_LITERAL as u32) as i64;
         if self.slips() {
             l += *self.r.pick(&[-1i64, 1, 1, 2, -2, 8]);
         }
-        l.clamp(0, 128) as usize
+        l.clamp(0, MAX_LITERAL as i64) as usize
+    }
+    /// The literal of an assignment to or a test of [s, e).
+    fn range_literal(&mut self, s: u32, e: u32) -> Vec<bool> {
+        let w = if s <= e { e - s } else { self.width() };
+        let l = self.exact_len(w);
+        self.bits(l)
     }
     fn short_len(&mut self, w: u32) -> usize {
-        let w = w.min(128);
+        let w = w.min(MAX_LITERAL as u32);
         let mut l = match self.r.below(10) {
             0..=4 => w as i64,
             5 => 0,
@@ -146,12 +170,22 @@ impl<'a> Gen<'a> {
         if self.slips() {
             l = w as i64 + 1 + self.r.below(3) as i64;
         }
-        l.clamp(0, 128) as usize
+        l.clamp(0, MAX_LITERAL as i64) as usize
+    }
+    /// How many of the four patterns a field of this width can have without breaking a rule.
+    fn patterns(w: u32) -> u64 {
+        if w as u64 <= MAX_RANGE_BITS {
+            4
+        } else if w as usize <= MAX_LITERAL {
+            3
+        } else {
+            1
+        }
     }
     fn pattern(&mut self, n: &mut Node, w: u32) {
-        let p = if w > 128 && !self.slips() && !(self.slip > 0 && self.r.pct(30)) { 0 } else { self.r.below(4) as u8 };
-        n.pat = p;
-        match p {
+        let any = self.slips() || self.slip > 0 && self.r.pct(30);
+        n.pat = self.r.below(if any { 4 } else { Self::patterns(w) }) as u8;
+        match n.pat {
             0 => {
                 let l = self.short_len(w);
                 n.a = self.bits(l);
@@ -175,28 +209,36 @@ impl<'a> Gen<'a> {
                 let l = self.exact_len(w);
                 n.b = self.bits(l);
             }
-            _ => {
-                let l = self.short_len(w);
-                let mut a = self.bits(l);
-                let l = self.short_len(w);
-                let mut b = self.bits(l);
-                let val = |v: &[bool]| v.iter().enumerate().fold(0u128, |x, (i, t)| x | (*t as u128) << i);
-                if val(&a) > val(&b) && !(self.slip > 0 && self.r.pct(10 + self.slip / 4)) {
-                    std::mem::swap(&mut a, &mut b);
-                }
-                if self.r.pct(15) && a.len() <= w as usize {
-                    b = vec![true; w.min(128) as usize]; // to the top
-                }
-                if self.r.pct(8) {
-                    a = vec![false; a.len()];
-                }
-                if self.r.pct(6) {
-                    b = a.clone();
-                }
-                n.a = a;
-                n.b = b;
-            }
+            _ => self.bounds(n, w),
         }
+    }
+    fn bound_len(&mut self, w: u32) -> usize {
+        if self.long && self.slips() {
+            self.long_width().min(MAX_LITERAL as u32) as usize
+        } else {
+            self.short_len(w)
+        }
+    }
+    /// The bounds of a range pattern.
+    fn bounds(&mut self, n: &mut Node, w: u32) {
+        let (l, m) = (self.bound_len(w), self.bound_len(w));
+        let (mut a, mut b) = (self.bits(l), self.bits(m));
+        // by their standing bits, the highest first
+        let standing = |v: &[bool]| (0..v.len()).rev().filter(|i| v[*i]).collect::<Vec<_>>();
+        if standing(&a) > standing(&b) && !(self.slip > 0 && self.r.pct(10 + self.slip / 4)) {
+            std::mem::swap(&mut a, &mut b);
+        }
+        if self.r.pct(15) && a.len() <= w as usize {
+            b = vec![true; w.min(MAX_LITERAL as u32) as usize]; // to the top
+        }
+        if self.r.pct(8) {
+            a = vec![false; a.len()];
+        }
+        if self.r.pct(6) {
+            b = a.clone();
+        }
+        n.a = a;
+        n.b = b;
     }
     fn alias(&mut self) -> Option<(u16, u32, u32)> {
         if self.aliases.is_empty() {
@@ -256,8 +298,7 @@ impl<'a> Gen<'a> {
             3..=6 => self.one_bit(TEST),
             7 | 8 => {
                 let (s, e) = self.range();
-                let l = self.exact_len(e.wrapping_sub(s).min(200));
-                Node { kind: RANGETEST, start: s, end: e, a: self.bits(l), ..Node::default() }
+                Node { kind: RANGETEST, start: s, end: e, a: self.range_literal(s, e), ..Node::default() }
             }
             9 | 10 => {
                 let (s, e) = self.range();
@@ -316,8 +357,7 @@ impl<'a> Gen<'a> {
             3 | 4 => self.one_bit(ASSIGN),
             5 | 6 => {
                 let (s, e) = self.range();
-                let l = self.exact_len(e.wrapping_sub(s).min(200));
-                Node { kind: RANGEASSIGN, start: s, end: e, a: self.bits(l), ..Node::default() }
+                Node { kind: RANGEASSIGN, start: s, end: e, a: self.range_literal(s, e), ..Node::default() }
             }
             7 | 8 => match self.alias() {
                 Some((name, s, e)) => {
@@ -430,13 +470,15 @@ impl<'a> Gen<'a> {
 
 /// A random term of up to about `budget` records.
 pub fn term(r: &mut Rng, max_budget: i64) -> Node {
-    let slip = *r.pick(&[0u64, 0, 0, 0, 5, 20, 20, 60, 150]);
+    let long = r.pct(18);
+    let slip = if long { *r.pick(&[0u64, 0, 20, 60, 150]) } else { *r.pick(&[0, 0, 0, 0, 5, 20, 20, 60, 150]) };
     let budget = 1 + r.below(max_budget as u64) as i64;
     let depth = 1 + r.below(if max_budget > 100 { 22 } else { 9 }) as u32;
     let wide = r.pct(40);
     let test = r.pct(40);
     let mut g = Gen::new(r, slip, budget, wide);
-    let bind = g.r.below(4);
+    g.long = long;
+    let bind = long as u64 + g.r.below(4);
     let mut n = if test { g.test(depth) } else { g.any(depth) };
     // often a few bindings around the whole, so that names resolve
     for _ in 0..bind {
@@ -480,7 +522,7 @@ pub fn damage(r: &mut Rng, good: &[u8]) -> Vec<u8> {
             }
             5 if !v.is_empty() => {
                 let i = r.below(v.len() as u64) as usize;
-                v[i] = *r.pick(&[0u8, 1, 2, 3, 4, 5, 26, 27, 128, 129, 255, 8]);
+                v[i] = if r.pct(75) { *r.pick(&[0u8, 1, 2, 3, 4, 5, 26, 27, 8]) } else { *r.pick(&LENGTHS) };
             }
             _ => {
                 let i = r.below(v.len() as u64 + 1) as usize;
@@ -492,6 +534,54 @@ pub fn damage(r: &mut Rng, good: &[u8]) -> Vec<u8> {
                 }
             }
         }
+    }
+    v
+}
+
+/// The bytes of a literal of so many bits, without its length; the spare bits of the last byte are clear.
+fn literal_bytes(r: &mut Rng, bits: u8) -> Vec<u8> {
+    let mut v: Vec<u8> = (0..bits.div_ceil(8)).map(|_| r.next() as u8).collect();
+    if let (Some(last), 1..) = (v.last_mut(), bits % 8) {
+        *last &= (1 << bits % 8) - 1;
+    }
+    v
+}
+
+/// The term's bytes, and where in them the length bytes of literals are.
+fn literal_places(n: &Node, out: &mut Vec<u8>, places: &mut Vec<usize>) {
+    put_record(n, out);
+    let mut end = out.len();
+    for bits in [n.b.len(), n.a.len()] {
+        if bits > 0 {
+            end -= 1 + bits.div_ceil(8);
+            places.push(end);
+        }
+    }
+    n.kids.iter().for_each(|k| literal_places(k, out, places));
+}
+
+/// A copy with a literal of another length, around a limit: the old bytes, or as many as belong to it, at times with a spare bit or
+/// some of them lacking.
+fn other_length(r: &mut Rng, good: &Node) -> Vec<u8> {
+    let (mut v, mut places) = (vec![], vec![]);
+    literal_places(good, &mut v, &mut places);
+    if places.is_empty() {
+        return damage(r, &v);
+    }
+    let at = *r.pick(&places);
+    let before = v[at].div_ceil(8) as usize;
+    v[at] = *r.pick(&LENGTHS);
+    if r.pct(25) {
+        return v;
+    }
+    let mut bytes = literal_bytes(r, v[at]);
+    let last = at + bytes.len();
+    if r.pct(20) {
+        *bytes.last_mut().unwrap() |= 1 << r.below(8);
+    }
+    v.splice(at + 1..at + 1 + before, bytes);
+    if r.pct(15) {
+        v.truncate(last - r.below(3) as usize);
     }
     v
 }
@@ -525,16 +615,17 @@ pub fn near_records(r: &mut Rng) -> Vec<u8> {
         if map & 32 != 0 { v.push(r.below(10) as u8); }
         for bit in [64u8, 128] {
             if map & bit != 0 {
-                let len = if r.pct(3) { *r.pick(&[0u8, 127, 128, 129, 255]) } else { 1 + r.below(17) as u8 };
+                let len = match r.below(100) {
+                    0 => 0,
+                    1..=4 => *r.pick(&LENGTHS),
+                    _ => 1 + r.below(17) as u8,
+                };
                 v.push(len);
-                for i in 0..(len as usize + 7) / 8 {
-                    let mut b = r.next() as u8;
-                    let spare = (i + 1) * 8;
-                    if spare > len as usize && r.pct(93) {
-                        b &= (1u16 << (8 - (spare - len as usize))).wrapping_sub(1) as u8;
-                    }
-                    v.push(b);
+                let mut bytes = literal_bytes(r, len);
+                if let (Some(last), true) = (bytes.last_mut(), r.pct(7)) {
+                    *last = r.next() as u8;
                 }
+                v.extend(bytes);
             }
         }
     }
@@ -597,16 +688,12 @@ pub fn limit(r: &mut Rng) -> Vec<u8> {
         }
         3 => {
             // literal lengths
-            let l = *r.pick(&[127u8, 128, 129, 130, 255, 0, 1, 8, 9]);
-            let w = if r.bool() { l as u32 } else { 128 };
+            let l = if r.pct(70) { *r.pick(&LENGTHS) } else { *r.pick(&[0, 1, 8, 9]) };
+            let w = if r.bool() { l as u32 } else { *r.pick(&[128, 192]) };
             let mut v = vec![0x49, if r.bool() { RANGETEST } else { RANGEASSIGN }];
             v.extend(w.to_le_bytes());
             v.push(l);
-            for i in 0..(l as usize + 7) / 8 {
-                let b = r.next() as u8;
-                let spare = (i + 1) * 8;
-                v.push(if spare > l as usize { b & ((1u16 << (8 - (spare - l as usize))).wrapping_sub(1) as u8) } else { b });
-            }
+            v.extend(literal_bytes(r, l));
             v
         }
         4 => {
@@ -678,8 +765,11 @@ pub fn input(r: &mut Rng, max_budget: i64) -> Vec<u8> {
     match r.below(100) {
         0..=69 => encoded(&term(r, max_budget)),
         70..=84 => {
-            let g = encoded(&term(r, max_budget.min(25)));
-            damage(r, &g)
+            let good = term(r, max_budget.min(25));
+            if r.pct(15) {
+                return other_length(r, &good);
+            }
+            damage(r, &encoded(&good))
         }
         85..=91 => near_records(r),
         92..=95 => (0..r.below(24)).map(|_| if r.bool() { r.below(28) as u8 } else { r.next() as u8 }).collect(),

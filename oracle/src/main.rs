@@ -75,10 +75,12 @@ fn on_large_stack<T: Send + 'static>(f: impl FnOnce() -> T + Send + 'static) -> 
 }
 
 fn main() {
-    // the original's num_fields panics where document 01 has refusal 25: no message for that
+    // No message for two panics of the original: num_fields where document 01 has refusal 25, and a literal beyond a u128 that is shown
+    // where overflow is checked. compare.rs judges both.
     let hook = std::panic::take_hook();
     std::panic::set_hook(Box::new(move |info| {
-        if !info.to_string().contains("Field count overflow") {
+        let known = ["Field count overflow", "shift left with overflow"].iter().any(|text| info.to_string().contains(text));
+        if !(known && info.location().is_some_and(|l| l.file().ends_with("/expr.rs"))) {
             hook(info);
         }
     }));

@@ -7,7 +7,9 @@ pub type Res<T> = Result<T, Refusal>;
 
 pub const MAX_RECORDS: u32 = 4096;
 pub const MAX_DEPTH: u32 = 256;
-pub const MAX_LITERAL: usize = 128;
+pub const MAX_LITERAL: usize = 192;
+/// The widest field that a range pattern may be on. Its bounds fit a u128, other literals need not.
+pub const MAX_RANGE_BITS: u64 = 128;
 
 pub const ZERO: u8 = 0;
 pub const ONE: u8 = 1;
@@ -91,9 +93,15 @@ struct Reader<'a> {
     bytes: &'a [u8],
     at: usize,
     records: u32,
+    /// The greatest length of a literal so far.
+    longest: usize,
 }
 
 impl<'a> Reader<'a> {
+    fn new(bytes: &'a [u8]) -> Self {
+        Reader { bytes, at: 0, records: 0, longest: 0 }
+    }
+
     fn take(&mut self, n: usize, place: u32) -> Res<&'a [u8]> {
         if self.bytes.len() - self.at < n {
             return Err((1, place));
@@ -113,6 +121,7 @@ impl<'a> Reader<'a> {
         if len == 0 {
             return Err((4, place));
         }
+        self.longest = self.longest.max(len);
         if len > MAX_LITERAL {
             return Err((5, place));
         }
@@ -191,12 +200,19 @@ impl<'a> Reader<'a> {
 
 /// Form: the tree and its record count.
 pub fn decode(bytes: &[u8]) -> Res<(Node, u32)> {
-    let mut r = Reader { bytes, at: 0, records: 0 };
+    let mut r = Reader::new(bytes);
     let n = r.record(1)?;
     if r.at < bytes.len() {
         return Err((8, r.records));
     }
     Ok((n, r.records))
+}
+
+/// The length of the longest literal that Form comes to, whether it refuses or not.
+pub fn longest_literal(bytes: &[u8]) -> usize {
+    let mut r = Reader::new(bytes);
+    let _ = r.record(1);
+    r.longest
 }
 
 fn put_literal(out: &mut Vec<u8>, bits: &[bool]) {
@@ -408,6 +424,7 @@ impl Plan {
     }
 }
 
+/// Of at most MAX_RANGE_BITS bits.
 fn value(bits: &[bool]) -> u128 {
     bits.iter().enumerate().fold(0, |v, (i, b)| v | (*b as u128) << i)
 }
@@ -458,7 +475,7 @@ fn leaf_plan(n: &Node, start: u32, end: u32) -> Result<Plan, u32> {
                 ))
             }
             _ => {
-                if width > 128 || alen > width || blen > width {
+                if width > MAX_RANGE_BITS || alen > width || blen > width {
                     return Err(20);
                 }
                 let (mut lo, mut hi) = (n.a.clone(), n.b.clone());

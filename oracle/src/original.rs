@@ -1,6 +1,12 @@
 //! The original: its trees from and to the model's trees and bytes, and its messages as numbers of document 01.
 use crate::expr::{Exp, Expr, Pattern};
 use crate::model::{self, Node};
+use std::panic::{catch_unwind, UnwindSafe};
+
+/// Whether overflow panics in this build (Cargo.toml's profiles).
+pub const CHECKED: bool = cfg!(debug_assertions);
+/// Stands for a refusal's number where the original panics as it shows a literal.
+pub const SHIFT_PANIC: u32 = 1000;
 
 pub fn name(n: u16) -> String {
     format!("n{n}")
@@ -233,7 +239,7 @@ pub fn write_core(e: &Expr, out: &mut Vec<u8>) {
     }
 }
 
-/// Document 01's number for a message of the original; 0 for one that should never come.
+/// Document 01's number for a message of the original; 0 for one that should never come, a panic among them.
 pub fn number(message: &str) -> u32 {
     let starts = |p: &str| message.starts_with(p);
     if starts("Unknown alias '") {
@@ -262,22 +268,50 @@ pub fn number(message: &str) -> u32 {
         22
     } else if starts("If-then-else condition must") {
         23
+    } else if message == "panics: attempt to shift left with overflow" {
+        SHIFT_PANIC
     } else {
         0
     }
 }
 
-pub fn desugar(n: &Node) -> Result<Vec<u8>, (u32, String)> {
-    let e = to_expr(n);
-    match crate::desugar::desugar(&e) {
-        Ok(c) => Ok(expr_bytes(&c)),
-        Err(m) => Err((number(&m.message), m.message)),
-    }
+/// What a call gives, or the message of its panic.
+fn caught<T>(call: impl FnOnce() -> T + UnwindSafe) -> Result<T, String> {
+    catch_unwind(call).map_err(|panic| {
+        let text = panic.downcast_ref::<&str>().map(|s| s.to_string());
+        let text = text.or_else(|| panic.downcast_ref::<String>().cloned());
+        format!("panics: {}", text.unwrap_or_default())
+    })
 }
 
-/// None where `num_fields` panics.
+/// The core, or a number and the message.
+pub fn desugar(n: &Node) -> Result<Vec<u8>, (u32, String)> {
+    let e = to_expr(n);
+    let message = match caught(|| crate::desugar::desugar(&e)) {
+        Ok(Ok(c)) => return Ok(expr_bytes(&c)),
+        Ok(Err(e)) => e.message,
+        Err(panic) => panic,
+    };
+    Err((number(&message), message))
+}
+
+/// Whether a message that shows this term panics in a build that checks overflow: the original shows a literal by `1 << i`, as a u128.
+pub fn shown_beyond_u128(n: &Node) -> bool {
+    [&n.a, &n.b].iter().any(|bits| bits.iter().skip(128).any(|b| *b)) || n.kids.iter().any(shown_beyond_u128)
+}
+
+/// As the original shows it.
+pub fn text(e: &Expr) -> String {
+    caught(|| e.to_string()).unwrap_or_else(|panic| panic)
+}
+
+/// None where `num_fields` panics because a field has no successor.
 pub fn fields(e: &Expr) -> Option<u32> {
-    std::panic::catch_unwind(|| e.num_fields()).ok()
+    match caught(|| e.num_fields()) {
+        Ok(count) => Some(count),
+        Err(panic) if panic == "panics: Field count overflow" => None,
+        Err(panic) => panic!("num_fields {panic}"),
+    }
 }
 
 pub fn subrange(a: u32, b: u32, s: u32, e: u32) -> Option<(u32, u32)> {

@@ -168,7 +168,9 @@ fn random_case(r: &mut Rng, budget: i64) -> Case {
     let term = if r.pct(25) {
         // many broken rules
         let (depth, is_test, size) = (1 + r.below(6) as u32, r.bool(), 2 + r.below(14) as i64);
+        let long = r.pct(18);
         let mut g = Gen::new(r, 150, size, true);
+        g.long = long;
         encoded(&if is_test { g.test(depth) } else { g.any(depth) })
     } else {
         gen::input(r, budget)

@@ -12,6 +12,7 @@ pub mod pre {
 }
 include!(concat!(env!("OUT_DIR"), "/modules.rs"));
 mod back;
+mod long;
 mod random;
 
 use netkat::{Exp, Expr, Names, Pattern};
@@ -157,7 +158,7 @@ fn run(seed: u64, count: u64) -> bool {
     );
     println!("kinds in those read back: {:?}", tally.kinds);
     println!("{differences} differences");
-    differences == 0
+    long::compare(&names, &numbers) && differences == 0
 }
 
 /// Prints short policies without words for their names.
