@@ -290,7 +290,7 @@ fn main() {
         os::fail(path);
         return;
     }
-    let mut bytes = [0; 131072];
+    let mut bytes = [0; 262144];
     let n = io::read_full(fd, &mut bytes);
     libc::close(fd);
     let tally = run_all(&bytes[..n]);

@@ -43,6 +43,9 @@ const WORDS: [&str; 18] = [
 
 /// Whether the written syntax can say a node, its children aside, by the rules on widths of literals.
 fn sayable(node: &Expr) -> bool {
+    if literals(node).iter().any(|bits| bits.len() > long::NUMBER_BITS) {
+        return false;
+    }
     match node {
         Expr::VarAssign(_, bits) | Expr::VarTest(_, bits) => !bits.is_empty(),
         Expr::BitRangeAssign(start, end, bits) => bits.len() == width(*start, *end),
@@ -50,6 +53,20 @@ fn sayable(node: &Expr) -> bool {
         Expr::BitRangeMatch(start, end, pattern) => sayable_pattern(pattern, width(*start, *end)),
         Expr::VarMatch(_, pattern) => sayable_pattern(pattern, 0),
         _ => true,
+    }
+}
+
+fn literals(node: &Expr) -> Vec<&[bool]> {
+    match node {
+        Expr::VarAssign(_, bits) | Expr::VarTest(_, bits) => vec![bits],
+        Expr::BitRangeAssign(_, _, bits) | Expr::BitRangeTest(_, _, bits) => vec![bits],
+        Expr::BitRangeMatch(_, _, pattern) | Expr::VarMatch(_, pattern) => match &**pattern {
+            Pattern::Exact(bits) => vec![bits],
+            Pattern::Cidr { address, .. } => vec![address],
+            Pattern::Wildcard { address, mask } => vec![address, mask],
+            Pattern::IpRange { start, end } => vec![start, end],
+        },
+        _ => vec![],
     }
 }
 

@@ -37,12 +37,13 @@ impl Random {
         (0..width).map(|i| i < highest && self.one_in(2)).collect()
     }
 
-    /// A width that the original's parser reads without wrapping.
+    /// A width that the original's parser reads without wrapping, or one of literals that `Display` keeps from it.
     fn width(&mut self) -> usize {
         match self.below(8) {
             0 => 32,
             1 => self.below(127) + 1,
             2 if !self.tidy => 0,
+            3 if !self.tidy => self.below(64) + 129,
             _ => self.below(9) + 1,
         }
     }
