@@ -21,7 +21,7 @@ abbrev pub literalRule : Where → Bits → ℕ → ℕ → Answer (Unit {0})
 literalRule (Direct s e) a n at = need (eqb (length a) n) 16 at
 literalRule (Alias x) a n at = need (leb (length a) n) 15 at
 
--- "20 range pattern on a field over 128 bits"
+-- "20 range pattern on a field over 128 bits", and in document 02, change 6: "Range patterns keep their 128-bit field limit."
 abbrev pub maxRangeBits : ℕ
 maxRangeBits = 128
 

@@ -43,7 +43,7 @@ chunk (suc n) = byte >>= λ b. chunk n >>= λ bs. give (b ∷ bs)
 abbrev pub nonzero : ℕ → Reads ℕ
 nonzero n = chunk n >>= λ bs. ask (not (eqb (numberOf bs) 0)) 4 >>= λ _. give (numberOf bs)
 
--- "Term bytes": "over 128 is 5", and by Change 6 "Literals may be up to 192 bits, so refusal 5 begins at 193". The longest literal
+-- document 02, change 6: "Literals may be up to 192 bits, so refusal 5 begins at 193." In document 01 it began at 129
 abbrev pub maxLiteral : ℕ
 maxLiteral = 192
 
@@ -56,7 +56,7 @@ allFalse [] = true
 allFalse (b ∷ a) = not b && allFalse a
 
 -- "Term bytes": "a length byte (0 is 4, over 128 is 5, both before its bits are looked for), then bits, least significant
--- first, spare high bits zero (else 4)". Change 6 moves 5 to lengths over 192
+-- first, spare high bits zero (else 4)"; by change 6 "over 192"
 abbrev pub literal : Reads Bits
 literal =
     byte >>= λ n.

@@ -15,7 +15,7 @@ use Rattle.literals.proofs.Codec.{literal-limit}
 use Rattle.expr.specs.Answers.{ok, refuse}
 use Rattle.expr.specs.Form.{Within, decode, encode}
 use Rattle.expr.specs.Operations.{fieldsBytes, substituteBytes}
-use Rattle.expr.specs.Terms.{Core, Direct, Expr, Plain, Ranged, Star, Test, Unary, Use, Var, records}
+use Rattle.expr.specs.Terms.{Alias, Core, Direct, Expr, LetBitRange, Name, Plain, Ranged, Star, Test, Unary, Use, Var, records}
 use Rattle.expr.proofs.FormTheorem.{bytes-of-encode, decode-encode, form-exact}
 use Rattle.desugar.specs.Bindings.{Env, computeSubrange}
 use Rattle.desugar.specs.Claims.{Limit}
@@ -34,7 +34,7 @@ use Rattle.netkat.specs.declared.Answer.{Answer as HostAnswer}
 use Rattle.netkat.proofs.AtPoint.{desugar-at-answers, desugar-at-means, desugar-at-succeeds}
 use Rattle.netkat.proofs.Demands.{each-call, never-zero, points-and-whole, trees-and-forms}
 use Rattle.netkat.proofs.Inside.{each-record, inside-points, walk-inside, walk-length}
-use Rattle.netkat.proofs.LongLiterals.{good-over, range-kept, range-wide}
+use Rattle.netkat.proofs.LongLiterals.{good-alias, good-direct, range-kept, range-wide}
 use Rattle.netkat.proofs.Numbers.{Numbered, desugar-at-numbers}
 use Rattle.netkat.proofs.Rules.{behind-rule, none-fails, rules-append}
 use Rattle.netkat.proofs.Whole.{check-bytes, desugar-bytes, desugared-bytes, refused-bytes}
@@ -183,11 +183,12 @@ pub literal-limit-theorem : (n : ℕ) (bs : List ℕ) → (literal (n ∷ bs) �
 literal-limit-theorem = literal-limit
 
 -- "A label stack of six 32-bit words has 192 bits and our users write it as one literal.": whatever the literal and wherever its fields lie, a
--- test of it, an assignment, an Exact, a CIDR and a wildcard over all its fields have good form and keep the rules (specs/Claims.antt: TakesWhole).
--- Of which values the core holds is `demand-2` (forms), for every length
-pub long-literal-theorem : (s : ℕ) (a : Bits) → length a ≤ 192 → s + length a < 2 ^ 32 → (u : Use) → TakesWhole a u
-    → let e : Expr = Ranged (Direct s (s + length a)) u in Good (encode e) e
-long-literal-theorem = good-over
+-- test of it, an assignment, an Exact, a CIDR and a wildcard over all its fields (specs/Claims.antt: TakesWhole), written out or by an alias, have
+-- good form and keep the rules. Of which values the core holds is `demand-2` (forms), for every length
+pub long-literal-theorem : (a : Bits) → length a ≤ 192 → (s : ℕ) → s + length a < 2 ^ 32 → (u : Use) → TakesWhole a u
+    → (let e : Expr = Ranged (Direct s (s + length a)) u in Good (encode e) e)
+    × ((x : Name) → x < 2 ^ 16 → let e : Expr = LetBitRange x s (s + length a) (Ranged (Alias x) u) in Good (encode e) e)
+long-literal-theorem a short s inside u t = (good-direct a short s inside u t, good-alias a short s inside u t)
 
 -- "Range patterns keep their 128-bit field limit.": a wider field is refused by 20, whatever the bounds
 pub range-limit-theorem : (a b : Bits) (n at : ℕ)
