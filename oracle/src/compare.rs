@@ -391,11 +391,11 @@ fn first_top_field(n: &Node) -> Option<u32> {
     n.kids.iter().find_map(first_top_field)
 }
 
-pub fn random(seed: u64, count: u64, budget: i64) -> Stats {
+pub fn random(seed: u64, count: u64, budget: i64, input: fn(&mut Rng, i64) -> Vec<u8>) -> Stats {
     let mut stats = Stats::default();
     for i in 0..count {
         let mut r = Rng::new(seed.wrapping_mul(0x1_0000_0001).wrapping_add(i));
-        let bytes = gen::input(&mut r, budget);
+        let bytes = input(&mut r, budget);
         stats.case(&bytes, &mut r);
     }
     stats

@@ -471,6 +471,10 @@ impl<'a> Gen<'a> {
 /// A random term of up to about `budget` records.
 pub fn term(r: &mut Rng, max_budget: i64) -> Node {
     let long = r.pct(18);
+    term_with(r, max_budget, long)
+}
+
+fn term_with(r: &mut Rng, max_budget: i64, long: bool) -> Node {
     let slip = if long { *r.pick(&[0u64, 0, 20, 60, 150]) } else { *r.pick(&[0, 0, 0, 0, 5, 20, 20, 60, 150]) };
     let budget = 1 + r.below(max_budget as u64) as i64;
     let depth = 1 + r.below(if max_budget > 100 { 22 } else { 9 }) as u32;
@@ -783,5 +787,20 @@ pub fn input(r: &mut Rng, max_budget: i64) -> Vec<u8> {
             }
         }
         _ => encoded(&term(r, max_budget)),
+    }
+}
+
+/// An input in which Form comes to a literal of more than 128 bits.
+pub fn long_input(r: &mut Rng, max_budget: i64) -> Vec<u8> {
+    loop {
+        let good = term_with(r, max_budget, true);
+        let bytes = match r.below(100) {
+            0..=84 => encoded(&good),
+            85..=94 => other_length(r, &good),
+            _ => damage(r, &encoded(&good)),
+        };
+        if longest_literal(&bytes) > 128 {
+            return bytes;
+        }
     }
 }

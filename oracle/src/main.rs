@@ -18,6 +18,7 @@ mod vectors;
 
 const USAGE: &str = "oracle replay FILE...                       vector files, through the model, the original and the port
 oracle compare SEED COUNT BUDGET THREADS    random inputs, terms of up to about BUDGET records
+oracle long SEED COUNT BUDGET THREADS       the same, each with a literal of more than 128 bits
 oracle exhaustive LENGTH                    all byte strings up to LENGTH; beyond 2 bytes, those of good form
 oracle meaning SEED COUNT                   packet meaning of a written term and of its core, on six fields
 oracle sample SEED COUNT BUDGET             random vector lines with the model's answers
@@ -35,24 +36,28 @@ fn number(args: &[String], i: usize) -> u64 {
     })
 }
 
+fn compared([seed, count, budget, threads]: [u64; 4], input: fn(&mut gen::Rng, i64) -> Vec<u8>) -> bool {
+    let threads = threads.max(1);
+    let parts: Vec<_> = (0..threads)
+        .map(|t| {
+            let share = count / threads + (t < count % threads) as u64;
+            let seed = seed.wrapping_mul(1000).wrapping_add(t);
+            on_large_stack(move || compare::random(seed, share, budget as i64, input))
+        })
+        .collect();
+    let mut all = compare::Stats::default();
+    for part in parts {
+        all.merge(part.join().expect("a comparison thread ended early"));
+    }
+    all.print()
+}
+
 fn run(args: Vec<String>) -> bool {
     let n = |i| number(&args, i);
     match args.get(1).map(|s| s.as_str()).unwrap_or("") {
         "replay" => vectors::replay(&args[2..]),
-        "compare" => {
-            let (seed, count, budget, threads) = (n(2), n(3), n(4) as i64, n(5).max(1));
-            let parts: Vec<_> = (0..threads)
-                .map(|t| {
-                    let share = count / threads + (t < count % threads) as u64;
-                    on_large_stack(move || compare::random(seed.wrapping_mul(1000).wrapping_add(t), share, budget))
-                })
-                .collect();
-            let mut all = compare::Stats::default();
-            for part in parts {
-                all.merge(part.join().expect("a comparison thread ended early"));
-            }
-            all.print()
-        }
+        "compare" => compared([n(2), n(3), n(4), n(5)], gen::input),
+        "long" => compared([n(2), n(3), n(4), n(5)], gen::long_input),
         "exhaustive" => compare::exhaustive(n(2) as usize).print(),
         "meaning" => meaning::run(n(2), n(3)),
         "sample" => vectors::sample(n(2), n(3), n(4) as i64),
