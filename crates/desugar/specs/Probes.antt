@@ -1,8 +1,9 @@
--- The starred probes of document 01 ("Probes"), as one list, and what no starred probe shows; then those of document 02's changes.
+-- The starred probes of document 01 ("Probes"), as one list, and what no starred probe shows; then ours for the changes of
+-- document 02.
 use mathlib.Core.{Bool.Bool, Bool.true, Bool.false, List.List, List.[], List._∷_}
 use Prim.Native.Nat.{ℕ, zero, suc, _+_, _-_, _^_}
 use Rattle.literals.specs.{Bits.Bits, Bits.bitsOf, Patterns.Exact, Patterns.Cidr, Patterns.Wildcard, Patterns.IpRange}
-use Rattle.expr.specs.{Answers.Answer, Answers.ok, Answers.refuse, Form.encode, Form.encodeCore, Terms.Alias, Terms.Assigns, Terms.Binary, Terms.Core, Terms.Difference, Terms.Direct, Terms.Dup, Terms.Expr, Terms.IfThenElse, Terms.Intersect, Terms.Let, Terms.LetBitRange, Terms.Matches, Terms.One, Terms.Plain, Terms.Ranged, Terms.Sequence, Terms.Star, Terms.Test, Terms.TestNegation, Terms.Tests, Terms.Unary, Terms.Union, Terms.Use, Terms.Var, Terms.Xor, Terms.Zero, Terms.leaf, Terms.size, Terms.two}
+use Rattle.expr.specs.{Answers.Answer, Answers.ok, Answers.refuse, Form.encode, Form.encodeCore, Terms.Alias, Terms.Assign, Terms.Assigns, Terms.Atom, Terms.Binary, Terms.Core, Terms.Difference, Terms.Direct, Terms.Dup, Terms.Expr, Terms.IfThenElse, Terms.Intersect, Terms.Let, Terms.LetBitRange, Terms.Matches, Terms.One, Terms.Op2, Terms.Plain, Terms.Ranged, Terms.Sequence, Terms.Star, Terms.Test, Terms.TestNegation, Terms.Tests, Terms.Unary, Terms.Union, Terms.Use, Terms.Var, Terms.Xor, Terms.Zero, Terms.leaf, Terms.size, Terms.two}
 use Rattle.desugar.specs.{Desugar.desugarBytes, Desugar.workFor}
 
 -- what the program of document 01 asks with: allowance 1,000, work memory to match, an answer buffer of 7,000 bytes
@@ -190,27 +191,43 @@ refusals =
 
 -- ## Change 6 of document 02: "Literals may be up to 192 bits, so refusal 5 begins at 193."
 
--- the n fields from s on are 1
-abbrev pub allOnes : (s n : ℕ) → Core
-allOnes s zero = leaf One
-allOnes s (suc zero) = test s true
-allOnes s (suc (suc n)) = both (test s true) (allOnes (suc s) (suc n))
+-- fields have the value v, each joined to what follows: the n fields from s on, and those from n - 1 down to 0
+abbrev pub upward : Op2 → (ℕ → Bool → Atom) → Bool → (s n : ℕ) → Core → Core
+upward o f v s zero c = c
+upward o f v s (suc n) c = two o (leaf (f s v)) (upward o f v (suc s) n c)
 
--- the greatest value of n bits
-abbrev pub highest : ℕ → ℕ
-highest n = 2 ^ n - 1
+abbrev pub downward : Bool → (n : ℕ) → Core
+downward v zero = leaf One
+downward v (suc zero) = test 0 v
+downward v (suc (suc n)) = both (test (suc n) v) (downward v (suc n))
+
+-- "A label stack of six 32-bit words has 192 bits": the lowest word has all bits, the highest word its highest bit, the others none
+abbrev pub stack : Bits
+stack = literal (2 ^ 191 + (2 ^ 32 - 1)) 192
+
+-- its core over the fields from s on
+abbrev pub stacked : Op2 → (ℕ → Bool → Atom) → ℕ → Core
+stacked o f s = upward o f true s 32 (upward o f false (s + 32) 159 (leaf (f (s + 191) true)))
 
 abbrev pub longer : List Probe
 longer =
-    -- "A label stack of six 32-bit words has 192 bits and our users write it as one literal.": from field 32 on, and as an alias
-    gives (Ranged (Direct 32 224) (Tests (literal (highest 192) 192))) (allOnes 32 192) 383 383
-    ∷ gives (LetBitRange 1 32 224 (Ranged (Alias 1) (Matches (Exact (literal (highest 192) 192))))) (allOnes 32 192) 383 383
-    -- its two highest bits by a CIDR; its bits 0, 128 and 191 by a wildcard
-    ∷ gives (Ranged (Direct 0 192) (Matches (Cidr (literal (2 ^ 191) 192) 2))) (both (test 190 false) (test 191 true)) 3 3
-    ∷ gives (Ranged (Direct 0 192) (Matches (Wildcard (literal (2 ^ 191 + 1) 192) (literal (highest 192 - (2 ^ 191 + 2 ^ 128 + 1)) 192))))
+    -- "and our users write it as one literal.": a test from field 32 on, an assignment, an Exact of an alias
+    gives (Ranged (Direct 32 224) (Tests stack)) (stacked Intersect Test 32) 383 383
+    ∷ gives (Ranged (Direct 0 192) (Assigns stack)) (stacked Sequence Assign 0) 383 383
+    ∷ gives (LetBitRange 1 32 224 (Ranged (Alias 1) (Matches (Exact stack)))) (stacked Intersect Test 32) 383 383
+    -- over 200 fields, the highest of which are then false
+    ∷ gives (LetBitRange 1 0 200 (Ranged (Alias 1) (Tests (literal (2 ^ 191) 192))))
+    (upward Intersect Test false 0 191 (both (test 191 true) (upward Intersect Test false 192 7 (test 199 false)))) 399 399
+    -- the two highest bits by a CIDR; the bits 0, 128 and 191 by a wildcard
+    ∷ gives (Ranged (Direct 0 192) (Matches (Cidr stack 2))) (both (test 190 false) (test 191 true)) 3 3
+    ∷ gives (Ranged (Direct 0 192) (Matches (Wildcard stack (literal (2 ^ 192 - 1 - (2 ^ 191 + 2 ^ 128 + 1)) 192))))
     (both (test 0 true) (both (test 128 false) (test 191 true))) 5 5
-    -- "Range patterns keep their 128-bit field limit."
-    ∷ gives (Ranged (Direct 0 128) (Matches (IpRange (literal 0 128) (literal (highest 128) 128)))) (leaf One) 1 1
+    -- "Range patterns keep their 128-bit field limit.": from 2^127 - 1 to 2^127, and all values
+    ∷ gives (Ranged (Direct 0 128) (Matches (IpRange (literal (2 ^ 127 - 1) 128) (literal (2 ^ 127) 128))))
+    (both
+    (two Union (test 127 true) (both (test 127 false) (downward true 127)))
+    (two Union (test 127 false) (both (test 127 true) (downward false 127)))) 515 515
+    ∷ gives (Ranged (Direct 0 128) (Matches (IpRange (literal 0 128) (literal (2 ^ 128 - 1) 128)))) (leaf One) 1 1
     ∷ []
 
 -- and what is refused there

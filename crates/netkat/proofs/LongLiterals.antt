@@ -1,23 +1,25 @@
 -- Literals of every length within the limit are accepted over their own fields; range patterns keep a limit of their own.
-use mathlib.Core.Path.{_≡_, refl, sym}
+use mathlib.Core.Path.{_≡_, refl, sym, ap}
 use mathlib.Core.Logic.{_↔_}
 use mathlib.Core.List.{[]}
 use Prim.Native.Nat.{ℕ, _+_, _-_, _^_, _≤_, _<_}
 use native.Mathlib.Omega.{arith}
+use borrow.Author.Tests.{le-leb}
 use lib.ListN.{length}
 use Rattle.literals.specs.Bits.{Bits, valueOf}
 use Rattle.literals.specs.Patterns.{IpRange}
 use Rattle.literals.proofs.Logic.{eqb-is}
-use Rattle.expr.specs.Answers.{ok, refuse}
-use Rattle.expr.specs.Form.{RecordFits, Within, encode, nameRecord, rangedRecord}
-use Rattle.expr.specs.Terms.{Alias, Direct, Expr, LetBitRange, Name, Ranged, Use, Where}
+use Rattle.expr.specs.Answers.{Answer, andThen, ok, refuse}
+use Rattle.expr.specs.Form.{RecordFits, Within, decode, encode, nameRecord, rangedRecord}
+use Rattle.expr.specs.Terms.{Alias, Direct, Expr, LetBitRange, Matches, Name, Ranged, Use, Where}
 use Rattle.expr.proofs.FormTheorem.{decode-encode}
 use Rattle.desugar.specs.Rules.{patternRule, rangeRule}
 use Rattle.desugar.proofs.Decides.{UseSuits, decided, decides-ok, pattern-decides, range-decides}
 use Rattle.desugar.proofs.RuleLaws.{values-wide}
+use Rattle.netkat.specs.Check.{checkBytes, firstFailure}
 use Rattle.netkat.specs.Claims.{Good, TakesWhole, assign, cidr, exact, test, wildcard}
 use Rattle.netkat.specs.Points.{walk}
-use Rattle.netkat.proofs.Rules.{none-fails}
+use Rattle.netkat.proofs.Rules.{behind-rule, none-fails}
 
 -- a range or an alias whose numbers their bytes can hold
 abbrev Written : Where → Type 0
@@ -72,9 +74,30 @@ module _ (a : Bits) (short : length a ≤ 192) where
           rules = none-fails (walk [] d 0) .0 (rw (eqb-is x x .1 refl, kept (Alias x) 1) refl);
         }
 
-pub range-kept : (a b : Bits) (n at : ℕ)
-    → (patternRule (IpRange a b) n at ≡ ok tt) ↔ ((n ≤ 128) × (length a ≤ n) × (length b ≤ n) × (valueOf a ≤ valueOf b))
-range-kept a b n at = (decided (pattern-decides (IpRange a b) n at), decides-ok (pattern-decides (IpRange a b) n at))
+-- a range pattern over the fields from s up to e
+module _ (s e : ℕ) (a b : Bits) (order : s ≤ e) (inside : e < 2 ^ 32) (shortA : length a ≤ 192) (shortB : length b ≤ 192) where
+  abbrev between : Expr
+  between = Ranged (Direct s e) (Matches (IpRange a b))
 
-pub range-wide : (a b : Bits) (n at : ℕ) → 129 ≤ n → patternRule (IpRange a b) n at ≡ refuse 20 at
-range-wide a b n at h = sym (values-wide a b n at h)
+  formed : decode (encode between) ≡ ok between
+  formed =
+      let f : RecordFits (rangedRecord (Direct s e) (Matches (IpRange a b))) =
+      record { name = omega arith; start = omega arith; end = inside; number = omega arith; litA = shortA; litB = shortB } in
+      decode-encode between (record { count = omega arith; deep = omega arith; fits = f })
+
+  judged : (firstFailure (walk [] between 0) ≡ ok tt) ↔ (patternRule (IpRange a b) (e - s) 0 ≡ ok tt)
+  judged =
+      rw (le-leb s e order) (
+        (λ h. behind-rule (patternRule (IpRange a b) (e - s) 0) h .0),
+        (λ h. ap (λ (y : Answer (Unit {0})). andThen y (λ _. ok tt)) h),
+      )
+
+  pub range-good : Good (encode between) between ↔ ((e - s ≤ 128) × (length a ≤ e - s) × (length b ≤ e - s) × (valueOf a ≤ valueOf b))
+  range-good =
+      let d = pattern-decides (IpRange a b) (e - s) 0 in (
+        (λ g. decided d (judged .0 (none-fails (walk [] between 0) .1 (g .rules)))),
+        (λ h. record { form = formed; rules = none-fails (walk [] between 0) .0 (judged .1 (decides-ok d h)) }),
+      )
+
+  pub range-wide : 129 ≤ e - s → checkBytes (encode between) ≡ refuse 20 0
+  range-wide h = rw (formed, le-leb s e order, sym (values-wide a b (e - s) 0 h)) refl

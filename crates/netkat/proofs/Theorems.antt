@@ -5,24 +5,23 @@ use mathlib.Core.Path.{_≡_, refl, subst}
 use mathlib.Core.Logic.{_↔_}
 use mathlib.Core.Bool.{Bool, true, false}
 use mathlib.Core.List.{List, [], _∷_, map, List·Memᴰ}
-use Prim.Native.Nat.{ℕ, _+_, _^_, _≤_, _<_}
+use Prim.Native.Nat.{ℕ, _+_, _-_, _^_, _≤_, _<_}
 use native.Mathlib.Nat.{zero-add}
 use lib.ListN.{length}
-use Rattle.literals.specs.Bits.{Bits, Bytes, valueOf}
+use Rattle.literals.specs.Bits.{Bits, Bytes, bitsOf, valueOf}
 use Rattle.literals.specs.Patterns.{IpRange}
 use Rattle.literals.specs.Reading.{fault, literal}
 use Rattle.literals.proofs.Codec.{literal-limit}
 use Rattle.expr.specs.Answers.{ok, refuse}
 use Rattle.expr.specs.Form.{Within, decode, encode}
 use Rattle.expr.specs.Operations.{fieldsBytes, substituteBytes}
-use Rattle.expr.specs.Terms.{Alias, Core, Direct, Expr, LetBitRange, Name, Plain, Ranged, Star, Test, Unary, Use, Var, records}
+use Rattle.expr.specs.Terms.{Alias, Core, Direct, Expr, LetBitRange, Matches, Name, Plain, Ranged, Star, Test, Tests, Unary, Use, Var, records}
 use Rattle.expr.proofs.FormTheorem.{bytes-of-encode, decode-encode, form-exact}
 use Rattle.desugar.specs.Bindings.{Env, computeSubrange}
 use Rattle.desugar.specs.Claims.{Limit}
 use Rattle.desugar.specs.Desugar.{desugarBytes}
 use Rattle.desugar.specs.Packets.{Others, oneStep}
-use Rattle.desugar.specs.Probes.{answered, computed, further, longer, refusals, refusedBy, starred, stars, stated, tooLong}
-use Rattle.desugar.specs.Rules.{patternRule}
+use Rattle.desugar.specs.Probes.{answered, computed, further, longer, refusals, refusedBy, stack, starred, stars, stated, tooLong}
 use Rattle.desugar.proofs.Limit.{limit}
 use Rattle.desugar.proofs.Probes.{further-probes, longer-probes, refused-probes, starred-probes, too-long-probes}
 use Rattle.netkat.specs.Check.{RulesHold, check, checkBytes, firstFailure, testSort}
@@ -34,7 +33,7 @@ use Rattle.netkat.specs.declared.Answer.{Answer as HostAnswer}
 use Rattle.netkat.proofs.AtPoint.{desugar-at-answers, desugar-at-means, desugar-at-succeeds}
 use Rattle.netkat.proofs.Demands.{each-call, never-zero, points-and-whole, trees-and-forms}
 use Rattle.netkat.proofs.Inside.{each-record, inside-points, walk-inside, walk-length}
-use Rattle.netkat.proofs.LongLiterals.{good-alias, good-direct, range-kept, range-wide}
+use Rattle.netkat.proofs.LongLiterals.{good-alias, good-direct, range-good, range-wide}
 use Rattle.netkat.proofs.Numbers.{Numbered, desugar-at-numbers}
 use Rattle.netkat.proofs.Rules.{behind-rule, none-fails, rules-append}
 use Rattle.netkat.proofs.Whole.{check-bytes, desugar-bytes, desugared-bytes, refused-bytes}
@@ -184,21 +183,30 @@ literal-limit-theorem = literal-limit
 
 -- "A label stack of six 32-bit words has 192 bits and our users write it as one literal.": whatever the literal and wherever its fields lie, a
 -- test of it, an assignment, an Exact, a CIDR and a wildcard over all its fields (specs/Claims.antt: TakesWhole), written out or by an alias, have
--- good form and keep the rules. Of which values the core holds is `demand-2` (forms), for every length
+-- good form and keep the rules. Which values the core holds of, or sets, `demand-2` (forms) says for every length
 pub long-literal-theorem : (a : Bits) → length a ≤ 192 → (s : ℕ) → s + length a < 2 ^ 32 → (u : Use) → TakesWhole a u
     → (let e : Expr = Ranged (Direct s (s + length a)) u in Good (encode e) e)
     × ((x : Name) → x < 2 ^ 16 → let e : Expr = LetBitRange x s (s + length a) (Ranged (Alias x) u) in Good (encode e) e)
 long-literal-theorem a short s inside u t = (good-direct a short s inside u t, good-alias a short s inside u t)
 
--- "Range patterns keep their 128-bit field limit.": a wider field is refused by 20, whatever the bounds
-pub range-limit-theorem : (a b : Bits) (n at : ℕ)
-    → ((patternRule (IpRange a b) n at ≡ ok tt) ↔ ((n ≤ 128) × (length a ≤ n) × (length b ≤ n) × (valueOf a ≤ valueOf b)))
-    × (129 ≤ n → patternRule (IpRange a b) n at ≡ refuse 20 at)
-range-limit-theorem a b n at = (range-kept a b n at, range-wide a b n at)
+-- "Range patterns keep their 128-bit field limit.": on the fields from s up to e one is accepted exactly if these are 128 at most, the bounds no
+-- longer than that, and the lower one not above the higher. On more fields Check refuses it by 20, whatever the bounds
+pub range-limit-theorem : (s e : ℕ) (a b : Bits) → s ≤ e → e < 2 ^ 32 → length a ≤ 192 → length b ≤ 192
+    → let t : Expr = Ranged (Direct s e) (Matches (IpRange a b)) in
+    (Good (encode t) t ↔ ((e - s ≤ 128) × (length a ≤ e - s) × (length b ≤ e - s) × (valueOf a ≤ valueOf b)))
+    × (129 ≤ e - s → checkBytes (encode t) ≡ refuse 20 0)
+range-limit-theorem s e a b h k l m = (range-good s e a b h k l m, range-wide s e a b h k l m)
 
--- literals of 192 bits and range patterns of 128 with their cores; what is refused at the limits (desugar/specs/Probes.antt)
+-- label stacks of 192 bits in each use and two range patterns on 128 fields, with their cores; what is refused at the limits
+-- (desugar/specs/Probes.antt)
 pub longer-theorem : map computed longer ≡ map stated longer
 longer-theorem = longer-probes
 
 pub too-long-theorem : map answered tooLong ≡ map refusedBy tooLong
 too-long-theorem = too-long-probes
+
+-- and of a replacement: 35 begins at 193 bits too
+pub longer-replacement-theorem : (substituteBytes (encode (Var 1)) 1 (encode (Ranged (Direct 0 192) (Tests stack))) 31
+    ≡ ok (encode (Ranged (Direct 0 192) (Tests stack))))
+    × (substituteBytes (encode (Var 1)) 1 (encode (Ranged (Direct 0 193) (Tests (bitsOf 193 1)))) 7000 ≡ refuse 35 0)
+longer-replacement-theorem = (refl, refl)

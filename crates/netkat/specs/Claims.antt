@@ -129,8 +129,8 @@ pub record Desugared (bs : List ℕ) (out : List ℕ) (m : ℕ) : Type 0 where
 
 -- ## Change 6 of document 02
 
--- "Everything that takes or compares a literal": the uses that take a literal a whole, over as many fields as it has bits. Of a range
--- pattern's bounds the rules ask more
+-- "Everything that takes or compares a literal": the uses that take the whole literal `a`, where there are as many fields as it has bits. A range
+-- pattern is none of them: it has a limit of its own
 pub data TakesWhole (a : Bits) : Use → Type 0 where
   test : TakesWhole a (Tests a)
   assign : TakesWhole a (Assigns a)
