@@ -42,7 +42,7 @@ uint32_t netkat_version(void);
 #define NETKAT_MAX_PREFIX 255
 
 /* The most fields that an IpRange can be matched against; with more it is refused by 20. */
-#define NETKAT_MAX_IP_RANGE_FIELDS 128
+#define NETKAT_MAX_RANGE_PATTERN_FIELDS 128
 
 /* The longest record, a match on a direct range with two literals of 192 bits, and the longest term: 1,365 Ifs over 2,731 such matches.
  * A buffer of NETKAT_TERM_MAX bytes holds every term, so also every result of netkat_substitute. */

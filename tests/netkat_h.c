@@ -82,9 +82,9 @@ static netkat_answer check_match(uint8_t width, uint8_t pattern, uint8_t bits, i
     return netkat_check(term, (size_t)(at - term));
 }
 
-/* Literals of up to NETKAT_MAX_LITERAL_BITS bits, and range patterns on up to NETKAT_MAX_IP_RANGE_FIELDS fields. */
+/* Literals of up to NETKAT_MAX_LITERAL_BITS bits, and range patterns on up to NETKAT_MAX_RANGE_PATTERN_FIELDS fields. */
 static void literal_limits(void) {
-    const uint8_t most = NETKAT_MAX_LITERAL_BITS, range = NETKAT_MAX_IP_RANGE_FIELDS;
+    const uint8_t most = NETKAT_MAX_LITERAL_BITS, range = NETKAT_MAX_RANGE_PATTERN_FIELDS;
     expect("longest literal", check_match(most, NETKAT_PATTERN_EXACT, most, 0), 0, 0, 1, 0);
     expect("longer literal", check_match(most + 1, NETKAT_PATTERN_EXACT, most + 1, 0), NETKAT_REFUSAL_OUT_OF_RANGE, 0, 0, 0);
     expect("literal longer than the range", check_match(most - 1, NETKAT_PATTERN_EXACT, most, 0), NETKAT_REFUSAL_LITERAL_TOO_LONG, 0, 0, 0);

@@ -12,7 +12,7 @@
 #include <stdio.h>
 #include <stdlib.h>
 
-enum { SEGMENT = 1, SERVICE = 2, ALLOWANCE = 1000 };
+enum { SEGMENT = 1, SERVICE = 2, WORDS = 6, ALLOWANCE = 1000 };
 
 struct literal {
     unsigned bits;                                /* 0 to 192 */
@@ -85,6 +85,17 @@ static void put_rule(struct term *t, unsigned service, unsigned bits) {
     put_record(t, (struct record){.kind = NETKAT_KIND_VAR_TEST, .name = SERVICE, .a = {bits, {service}}});
     put_record(t, (struct record){.kind = NETKAT_KIND_ASSIGN, .start = 8, .number = 1});
     put_record(t, (struct record){.kind = NETKAT_KIND_ZERO});
+}
+
+/* A match on the fields 0 to 191 with the first words of a label stack, as many as `count` says. A prefix is of the highest fields, so the
+ * first word of the stack lies there: it is the last of the literal's words. */
+static void put_labels(struct term *t, const uint32_t stack[WORDS], unsigned count) {
+    struct record first = {.kind = NETKAT_KIND_BIT_RANGE_MATCH, .end = 32 * WORDS, .pattern = NETKAT_PATTERN_CIDR};
+    first.number = (uint8_t)(32 * count);
+    first.a.bits = 32 * WORDS;
+    for (unsigned i = 0; i < WORDS; i++) first.a.words[WORDS - 1 - i] = stack[i];
+    t->len = 0;
+    put_record(t, first);
 }
 
 static const char *const kinds[] = {"Zero",      "One", "Top",        "Dup",      "End",      "Assign",     "Test", "Union",
@@ -161,5 +172,9 @@ int main(void) {
     puts("guests do not reach service 19, which does not fit in 4 bits:");
     put_rule(&term, 19, 5);
     show(&term);
+    puts("a label stack that begins with three labels, 16 to 18:");
+    put_labels(&term, (const uint32_t[WORDS]){0x10040, 0x11040, 0x12040}, 3);
+    netkat_answer checked = netkat_check(term.bytes, term.len);
+    if (!refused(checked)) printf("  term of %zu bytes: the rules hold\n", term.len);
     return 0;
 }

@@ -174,9 +174,12 @@ pub fn run(folder: &str) -> bool {
     for (name, term) in load(folder) {
         row(&prepare(name, term, &mut b), &mut b);
     }
-    let [long, words] = policies::label_stack_pair().map(|(name, term)| prepare(name, term, &mut b));
-    let [port, original, check] = [PORT, ORIGINAL, CHECK].map(|what| beside(&long, &words, what, &mut b));
-    println!("\n{} / {}: port {port}, original {original}, check {check}", long.name, words.name);
+    let [long, two, words] = policies::label_stack_policies().map(|(name, term)| prepare(name, term, &mut b));
+    println!();
+    for other in [two, words] {
+        let [port, original, check] = [PORT, ORIGINAL, CHECK].map(|what| beside(&long, &other, what, &mut b));
+        println!("{} / {}: port {port}, original {original}, check {check}", long.name, other.name);
+    }
     true
 }
 

@@ -35,7 +35,7 @@ struct LongLiterals {
     answers: BTreeMap<u32, u64>,
     /// How many such literals the terms of good form have: kinds 21 to 24, then patterns 0 to 3.
     forms: [u64; 8],
-    /// How many inputs are refused for a literal of more bits.
+    /// How many inputs have one of more bits, where Form comes to it.
     beyond: u64,
 }
 

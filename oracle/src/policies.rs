@@ -125,67 +125,58 @@ fn tenants(count: u16) -> Node {
 const WORDS: u32 = 6;
 const LABEL_BITS: u32 = 20;
 const TIME_TO_LIVE: u32 = 0xff;
-/// The alias of the whole stack; those of the words are numbered from the next on, the lowest word first.
-const STACK: u16 = 5;
+/// The aliases of a stack's parts are numbered from here on, the lowest part first.
+const FIRST_PART: u16 = 5;
 
-/// What an entry says of a stack, whose words are given with the lowest first.
+/// What an entry says of a stack.
+#[derive(Clone, Copy)]
 enum Labels {
-    Whole,
-    /// So many words from the top, and the label of the next.
+    /// So many of the highest bits are the entry's.
     Prefix(u32),
     /// All but the times to live.
     AnyTime,
 }
 
-fn stack_literal(words: &[u32]) -> Vec<bool> {
-    words.iter().flat_map(|word| literal(*word, 32)).collect()
-}
-
-/// As one literal of 192 bits.
-fn on_stack(words: &[u32], labels: &Labels) -> Node {
-    let whole = Node { kind: VARMATCH, name: STACK, a: stack_literal(words), ..Node::default() };
-    match labels {
-        Labels::Whole => whole,
-        Labels::Prefix(n) => Node { pat: 1, num: (32 * n + LABEL_BITS) as u8, ..whole },
-        Labels::AnyTime => Node { pat: 2, b: stack_literal(&[TIME_TO_LIVE; WORDS as usize]), ..whole },
-    }
-}
-
-/// The same by a match of each word.
-fn on_words(words: &[u32], labels: &Labels) -> Node {
-    let match_of = |word: u32| {
-        let a = literal(words[word as usize], 32);
-        Node { kind: VARMATCH, name: STACK + 1 + word as u16, a, ..Node::default() }
-    };
-    let matches = match labels {
-        Labels::Whole => (0..WORDS).map(match_of).collect(),
-        Labels::Prefix(n) => {
-            let label = Node { pat: 1, num: LABEL_BITS as u8, ..match_of(WORDS - 1 - n) };
-            std::iter::once(label).chain((WORDS - n..WORDS).map(match_of)).collect()
+/// An entry, by a match of each part that it says something of. The parts have these widths, the lowest first.
+fn label_stack(words: &[u32], labels: Labels, widths: &[u32]) -> Node {
+    let bits = |words: &[u32]| words.iter().flat_map(|word| literal(*word, 32)).collect::<Vec<_>>();
+    let (mut matches, mut start) = (vec![], 0);
+    for (name, width) in (FIRST_PART..).zip(widths) {
+        let part = start as usize..(start + width) as usize;
+        let exact = Node { kind: VARMATCH, name, a: bits(words)[part.clone()].to_vec(), ..Node::default() };
+        let above = 32 * WORDS - start - width;
+        start += width;
+        match labels {
+            Labels::Prefix(n) if n >= above + width => matches.push(exact),
+            Labels::Prefix(n) if n > above => matches.push(Node { pat: 1, num: (n - above) as u8, ..exact }),
+            Labels::Prefix(_) => {}
+            Labels::AnyTime => matches.push(Node { pat: 2, b: bits(&[TIME_TO_LIVE; WORDS as usize])[part].to_vec(), ..exact }),
         }
-        Labels::AnyTime => (0..WORDS).map(|word| Node { pat: 2, b: literal(TIME_TO_LIVE, 32), ..match_of(word) }).collect(),
-    };
+    }
     joined(INTERSECT, matches)
 }
 
-/// `count` entries, half of them whole label stacks, a quarter prefixes, a quarter for any time to live. `entry` says how each is written.
-fn label_stacks(count: u32, entry: fn(&[u32], &Labels) -> Node) -> Node {
+/// `count` entries, half of them whole label stacks, a quarter prefixes that end with a label, a quarter for any time to live.
+fn label_stacks(count: u32, widths: &[u32]) -> Node {
     let mut r = Rng::new(4);
     let entries = (0..count)
         .map(|i| {
             let words: Vec<u32> = (0..WORDS).map(|_| r.next() as u32).collect();
             let labels = match i % 4 {
-                0 | 1 => Labels::Whole,
-                2 => Labels::Prefix(r.below(WORDS as u64) as u32),
+                0 | 1 => Labels::Prefix(32 * WORDS),
+                2 => Labels::Prefix(32 * r.below(WORDS as u64) as u32 + LABEL_BITS),
                 _ => Labels::AnyTime,
             };
-            entry(&words, &labels)
+            label_stack(&words, labels, widths)
         })
         .collect();
-    let body = two(SEQUENCE, joined(UNION, entries), send_to(1));
-    let out = alias(OUT, 32 * WORDS, 32 * WORDS + 8, body);
-    let words = (0..WORDS).fold(out, |inner, word| alias(STACK + 1 + word as u16, 32 * word, 32 * word + 32, inner));
-    alias(STACK, 0, 32 * WORDS, words)
+    let mut policy = alias(OUT, 32 * WORDS, 32 * WORDS + 8, two(SEQUENCE, joined(UNION, entries), send_to(1)));
+    let mut start = 0;
+    for (name, width) in (FIRST_PART..).zip(widths) {
+        policy = alias(name, start, start + width, policy);
+        start += width;
+    }
+    policy
 }
 
 /// One test of a range of `width` fields.
@@ -198,17 +189,17 @@ fn below_lets(levels: u32, over: fn(Node) -> Node) -> Node {
     (0..levels).fold(wide_test(30_000), |inner, _| over(let_in(FIRST_VARIABLE, node(ONE, vec![]), inner)))
 }
 
-/// The same access list with literals of 192 bits and by words of 32.
-pub fn label_stack_pair() -> [(String, Vec<u8>); 2] {
-    [("label stacks, 100 of 192 bits", label_stacks(100, on_stack)), ("label stacks, 100 by words", label_stacks(100, on_words))]
-        .map(|(name, tree)| (name.to_string(), encoded(&tree)))
+/// The same access list with one literal of 192 bits for a stack, with two literals of at most 128, and with one for each word.
+pub fn label_stack_policies() -> [(String, Vec<u8>); 3] {
+    [("100 label stacks, 192 bits", &[192][..]), ("100 label stacks, 128 and 64", &[128, 64]), ("100 label stacks, six words", &[32; 6])]
+        .map(|(name, widths)| (name.to_string(), encoded(&label_stacks(100, widths))))
 }
 
 pub fn all() -> Vec<(String, Vec<u8>)> {
     [("access list, 200 entries", access_list(200)), ("first match, 40 rules", first_match(40)), ("tenant isolation", tenants(24))]
         .map(|(name, tree)| (name.to_string(), encoded(&tree)))
         .into_iter()
-        .chain(label_stack_pair())
+        .chain(label_stack_policies())
         .collect()
 }
 

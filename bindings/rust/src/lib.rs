@@ -108,7 +108,7 @@ pub fn library_version() -> (u32, u32, u32) {
     (version >> 16, version >> 8 & 0xff, version & 0xff)
 }
 
-/// The lowest `width` bits of a value, least significant first. Bits beyond 128 are false; for longer values see [`bits_of_words`].
+/// The lowest `width` bits of a value, least significant first. Bits from 128 on are false; for longer values see [`bits_of_words`].
 ///
 /// ```
 /// assert_eq!(netkat::bits(5, 4), [true, false, true, false]);
@@ -118,8 +118,8 @@ pub fn bits(value: u128, width: usize) -> Vec<bool> {
 }
 
 /// The bits of 32-bit words, least significant first: the first word is in the highest 32, as the first octet of an address is in the highest
-/// eight. Six words, as of a label stack, are the longest literal. For a width that is no multiple of 32, [`Vec::truncate`] cuts off the
-/// highest bits.
+/// eight. Six words, as of a label stack, are the longest literal: seven are refused. For a width that is no multiple of 32,
+/// [`Vec::truncate`] cuts off the highest bits, those of the first word.
 ///
 /// ```
 /// use netkat::{bits_of_words, desugar, Expr, Pattern};
