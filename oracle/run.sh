@@ -24,7 +24,7 @@ step python3 second.py $vectors
 step "$oracle" exhaustive 2
 step "$oracle" compare "$SEED" "$COUNT" 40 "$THREADS"
 step "$oracle" compare $((SEED + 1)) $((COUNT / 30)) 400 "$THREADS"
-step "$oracle" long "$SEED" $((COUNT / 10)) 20 "$THREADS"
+step "$oracle" long "$SEED" "$COUNT" 20 "$THREADS"
 step "$oracle" meaning "$SEED" $((COUNT / 3))
 "$oracle" sample "$SEED" $((COUNT / 10)) 30 > "$sample" || differences=1
 step "$oracle" replay "$sample"

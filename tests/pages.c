@@ -342,7 +342,7 @@ static void code(char *page) {
         if (!strstr(program, at)) WRONG("this code is not in examples/c/desugar.c:\n%s", at);
         at = end + 3;
     }
-    if (blocks != 5) WRONG("%d pieces of code", blocks);
+    if (blocks != 6) WRONG("%d pieces of code", blocks);
 }
 
 int main(void) {
