@@ -1,4 +1,5 @@
-/* An access rule as term bytes, its check, its core, and what a refusal looks like. Needs nothing but an installed libnetkat:
+/* An access rule as term bytes, its check, its core, what a refusal looks like, and a label stack as a literal. Needs nothing but an
+ * installed libnetkat:
  *
  *   cc desugar.c $(pkg-config --cflags --libs netkat) -o desugar && ./desugar
  *
@@ -172,7 +173,7 @@ int main(void) {
     puts("guests do not reach service 19, which does not fit in 4 bits:");
     put_rule(&term, 19, 5);
     show(&term);
-    puts("a label stack that begins with three labels, 16 to 18:");
+    puts("a label stack that begins with these three words:");
     put_labels(&term, (const uint32_t[WORDS]){0x10040, 0x11040, 0x12040}, 3);
     netkat_answer checked = netkat_check(term.bytes, term.len);
     if (!refused(checked)) printf("  term of %zu bytes: the rules hold\n", term.len);

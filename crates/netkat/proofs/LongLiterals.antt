@@ -1,5 +1,5 @@
 -- Literals of every length within the limit are accepted over their own fields; range patterns keep a limit of their own.
-use mathlib.Core.Path.{_≡_, refl, sym, ap}
+use mathlib.Core.Path.{_≡_, refl, sym, _∙_}
 use mathlib.Core.Logic.{_↔_}
 use mathlib.Core.List.{[]}
 use Prim.Native.Nat.{ℕ, _+_, _-_, _^_, _≤_, _<_}
@@ -9,8 +9,8 @@ use lib.ListN.{length}
 use Rattle.literals.specs.Bits.{Bits, valueOf}
 use Rattle.literals.specs.Patterns.{IpRange}
 use Rattle.literals.proofs.Logic.{eqb-is}
-use Rattle.expr.specs.Answers.{Answer, andThen, ok, refuse}
-use Rattle.expr.specs.Form.{RecordFits, Within, decode, encode, nameRecord, rangedRecord}
+use Rattle.expr.specs.Answers.{andThen, ok, refuse}
+use Rattle.expr.specs.Form.{Fits, RecordFits, Within, decode, encode, matchRecord, nameRecord, rangedRecord}
 use Rattle.expr.specs.Terms.{Alias, Direct, Expr, LetBitRange, Matches, Name, Ranged, Use, Where}
 use Rattle.expr.proofs.FormTheorem.{decode-encode}
 use Rattle.desugar.specs.Rules.{patternRule, rangeRule}
@@ -22,16 +22,19 @@ use Rattle.netkat.specs.Points.{walk}
 use Rattle.netkat.proofs.Rules.{behind-rule, none-fails}
 
 -- a range or an alias whose numbers their bytes can hold
-abbrev Written : Where → Type 0
-Written (Direct s e) = (s < 2 ^ 32) × (e < 2 ^ 32)
-Written (Alias x) = x < 2 ^ 16
+abbrev WhereFits : Where → Type 0
+WhereFits (Direct s e) = (s < 2 ^ 32) × (e < 2 ^ 32)
+WhereFits (Alias x) = x < 2 ^ 16
+
+alias-fits : (x s e : ℕ) → x < 2 ^ 16 → s < 2 ^ 32 → e < 2 ^ 32 → RecordFits (nameRecord 19 x s e)
+alias-fits x s e n k l = record { name = n; start = k; end = l; number = omega arith; litA = omega arith; litB = omega arith }
 
 module _ (a : Bits) (short : length a ≤ 192) where
   record-fits : (kind name start end pattern number : ℕ) (b : Bits) → name < 2 ^ 16 → start < 2 ^ 32 → end < 2 ^ 32 → number ≤ length a → length b ≤ 192
       → RecordFits (record { kind = kind; name = name; start = start; end = end; pattern = pattern; number = number; litA = a; litB = b })
   record-fits kind name start end pattern number b n s e h l = record { name = n; start = s; end = e; number = omega arith; litA = short; litB = l }
 
-  fits : (w : Where) → Written w → (u : Use) → TakesWhole a u → RecordFits (rangedRecord w u)
+  fits : (w : Where) → WhereFits w → (u : Use) → TakesWhole a u → RecordFits (rangedRecord w u)
   fits (Direct s e) w _ test = record-fits 24 0 s e 0 0 [] (omega arith) (w .0) (w .1) (omega arith) (omega arith)
   fits (Direct s e) w _ assign = record-fits 23 0 s e 0 0 [] (omega arith) (w .0) (w .1) (omega arith) (omega arith)
   fits (Direct s e) w _ exact = record-fits 25 0 s e 0 0 [] (omega arith) (w .0) (w .1) (omega arith) (omega arith)
@@ -67,37 +70,47 @@ module _ (a : Bits) (short : length a ≤ 192) where
     pub good-alias : (x : Name) → x < 2 ^ 16 → let d : Expr = LetBitRange x s (s + length a) (Ranged (Alias x) u) in Good (encode d) d
     good-alias x named =
         let d : Expr = LetBitRange x s (s + length a) (Ranged (Alias x) u) in
-        let alias : RecordFits (nameRecord 19 x s (s + length a)) =
-        record { name = named; start = omega arith; end = omega arith; number = omega arith; litA = omega arith; litB = omega arith } in
+        let f : Fits d = (alias-fits x s (s + length a) named (omega arith) (omega arith), fits (Alias x) named u t) in
         record {
-          form = decode-encode d (record { count = omega arith; deep = omega arith; fits = (alias, fits (Alias x) named u t) });
+          form = decode-encode d (record { count = omega arith; deep = omega arith; fits = f });
           rules = none-fails (walk [] d 0) .0 (rw (eqb-is x x .1 refl, kept (Alias x) 1) refl);
         }
 
--- a range pattern over the fields from s up to e
+-- a term in which the range pattern from a to b on n fields is judged at a place, and no other rule
+module _ (t : Expr) (a b : Bits) (n at : ℕ) (formed : decode (encode t) ≡ ok t)
+    (judged : firstFailure (walk [] t 0) ≡ andThen (patternRule (IpRange a b) n at) (λ _. ok tt)) where
+  good-exactly : Good (encode t) t ↔ ((n ≤ 128) × (length a ≤ n) × (length b ≤ n) × (valueOf a ≤ valueOf b))
+  good-exactly =
+      let d = pattern-decides (IpRange a b) n at in (
+        (λ g. decided d (behind-rule (patternRule (IpRange a b) n at) (sym judged ∙ none-fails (walk [] t 0) .1 (g .rules)) .0)),
+        (λ h. record { form = formed; rules = none-fails (walk [] t 0) .0 (judged ∙ rw (decides-ok d h) refl) }),
+      )
+
+  wide-refused : 129 ≤ n → checkBytes (encode t) ≡ refuse 20 at
+  wide-refused h = rw (formed, judged, sym (values-wide a b n at h)) refl
+
+  pub range-judged : (Good (encode t) t ↔ ((n ≤ 128) × (length a ≤ n) × (length b ≤ n) × (valueOf a ≤ valueOf b)))
+      × (129 ≤ n → checkBytes (encode t) ≡ refuse 20 at)
+  range-judged = (good-exactly, wide-refused)
+
+-- the two terms that are one: the range written out, and by an alias
 module _ (s e : ℕ) (a b : Bits) (order : s ≤ e) (inside : e < 2 ^ 32) (shortA : length a ≤ 192) (shortB : length b ≤ 192) where
-  abbrev between : Expr
-  between = Ranged (Direct s e) (Matches (IpRange a b))
+  bounds-fit : (kind name start end : ℕ) → name < 2 ^ 16 → start < 2 ^ 32 → end < 2 ^ 32 → RecordFits (matchRecord kind name start end (IpRange a b))
+  bounds-fit kind name start end n k l = record { name = n; start = k; end = l; number = omega arith; litA = shortA; litB = shortB }
 
-  formed : decode (encode between) ≡ ok between
-  formed =
-      let f : RecordFits (rangedRecord (Direct s e) (Matches (IpRange a b))) =
-      record { name = omega arith; start = omega arith; end = inside; number = omega arith; litA = shortA; litB = shortB } in
-      decode-encode between (record { count = omega arith; deep = omega arith; fits = f })
+  pub range-direct : let t : Expr = Ranged (Direct s e) (Matches (IpRange a b)) in
+      (Good (encode t) t ↔ ((e - s ≤ 128) × (length a ≤ e - s) × (length b ≤ e - s) × (valueOf a ≤ valueOf b)))
+      × (129 ≤ e - s → checkBytes (encode t) ≡ refuse 20 0)
+  range-direct =
+      let t : Expr = Ranged (Direct s e) (Matches (IpRange a b)) in
+      let f = bounds-fit 25 0 s e (omega arith) (omega arith) inside in
+      range-judged t a b (e - s) 0 (decode-encode t (record { count = omega arith; deep = omega arith; fits = f })) (rw (le-leb s e order) refl)
 
-  judged : (firstFailure (walk [] between 0) ≡ ok tt) ↔ (patternRule (IpRange a b) (e - s) 0 ≡ ok tt)
-  judged =
-      rw (le-leb s e order) (
-        (λ h. behind-rule (patternRule (IpRange a b) (e - s) 0) h .0),
-        (λ h. ap (λ (y : Answer (Unit {0})). andThen y (λ _. ok tt)) h),
-      )
-
-  pub range-good : Good (encode between) between ↔ ((e - s ≤ 128) × (length a ≤ e - s) × (length b ≤ e - s) × (valueOf a ≤ valueOf b))
-  range-good =
-      let d = pattern-decides (IpRange a b) (e - s) 0 in (
-        (λ g. decided d (judged .0 (none-fails (walk [] between 0) .1 (g .rules)))),
-        (λ h. record { form = formed; rules = none-fails (walk [] between 0) .0 (judged .1 (decides-ok d h)) }),
-      )
-
-  pub range-wide : 129 ≤ e - s → checkBytes (encode between) ≡ refuse 20 0
-  range-wide h = rw (formed, le-leb s e order, sym (values-wide a b (e - s) 0 h)) refl
+  pub range-alias : (x : Name) → x < 2 ^ 16 → let t : Expr = LetBitRange x s e (Ranged (Alias x) (Matches (IpRange a b))) in
+      (Good (encode t) t ↔ ((e - s ≤ 128) × (length a ≤ e - s) × (length b ≤ e - s) × (valueOf a ≤ valueOf b)))
+      × (129 ≤ e - s → checkBytes (encode t) ≡ refuse 20 1)
+  range-alias x named =
+      let t : Expr = LetBitRange x s e (Ranged (Alias x) (Matches (IpRange a b))) in
+      let f : Fits t = (alias-fits x s e named (omega arith) inside, bounds-fit 26 x 0 0 named (omega arith) (omega arith)) in
+      range-judged t a b (e - s) 1 (decode-encode t (record { count = omega arith; deep = omega arith; fits = f }))
+      (rw (eqb-is x x .1 refl, le-leb s e order) refl)

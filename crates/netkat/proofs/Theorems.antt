@@ -33,7 +33,7 @@ use Rattle.netkat.specs.declared.Answer.{Answer as HostAnswer}
 use Rattle.netkat.proofs.AtPoint.{desugar-at-answers, desugar-at-means, desugar-at-succeeds}
 use Rattle.netkat.proofs.Demands.{each-call, never-zero, points-and-whole, trees-and-forms}
 use Rattle.netkat.proofs.Inside.{each-record, inside-points, walk-inside, walk-length}
-use Rattle.netkat.proofs.LongLiterals.{good-alias, good-direct, range-good, range-wide}
+use Rattle.netkat.proofs.LongLiterals.{good-alias, good-direct, range-alias, range-direct}
 use Rattle.netkat.proofs.Numbers.{Numbered, desugar-at-numbers}
 use Rattle.netkat.proofs.Rules.{behind-rule, none-fails, rules-append}
 use Rattle.netkat.proofs.Whole.{check-bytes, desugar-bytes, desugared-bytes, refused-bytes}
@@ -189,13 +189,17 @@ pub long-literal-theorem : (a : Bits) → length a ≤ 192 → (s : ℕ) → s +
     × ((x : Name) → x < 2 ^ 16 → let e : Expr = LetBitRange x s (s + length a) (Ranged (Alias x) u) in Good (encode e) e)
 long-literal-theorem a short s inside u t = (good-direct a short s inside u t, good-alias a short s inside u t)
 
--- "Range patterns keep their 128-bit field limit.": on the fields from s up to e one is accepted exactly if these are 128 at most, the bounds no
--- longer than that, and the lower one not above the higher. On more fields Check refuses it by 20, whatever the bounds
+-- "Range patterns keep their 128-bit field limit.": on the fields from s up to e, written out or by an alias, one is accepted exactly if these are
+-- 128 at most, the bounds no longer than that, and the lower one not above the higher. On more fields Check refuses it by 20 at its record,
+-- whatever the bounds
 pub range-limit-theorem : (s e : ℕ) (a b : Bits) → s ≤ e → e < 2 ^ 32 → length a ≤ 192 → length b ≤ 192
-    → let t : Expr = Ranged (Direct s e) (Matches (IpRange a b)) in
+    → (let t : Expr = Ranged (Direct s e) (Matches (IpRange a b)) in
     (Good (encode t) t ↔ ((e - s ≤ 128) × (length a ≤ e - s) × (length b ≤ e - s) × (valueOf a ≤ valueOf b)))
-    × (129 ≤ e - s → checkBytes (encode t) ≡ refuse 20 0)
-range-limit-theorem s e a b h k l m = (range-good s e a b h k l m, range-wide s e a b h k l m)
+    × (129 ≤ e - s → checkBytes (encode t) ≡ refuse 20 0))
+    × ((x : Name) → x < 2 ^ 16 → let t : Expr = LetBitRange x s e (Ranged (Alias x) (Matches (IpRange a b))) in
+    (Good (encode t) t ↔ ((e - s ≤ 128) × (length a ≤ e - s) × (length b ≤ e - s) × (valueOf a ≤ valueOf b)))
+    × (129 ≤ e - s → checkBytes (encode t) ≡ refuse 20 1))
+range-limit-theorem s e a b h k l m = (range-direct s e a b h k l m, range-alias s e a b h k l m)
 
 -- label stacks of 192 bits in each use and two range patterns on 128 fields, with their cores; what is refused at the limits
 -- (desugar/specs/Probes.antt)
