@@ -10,7 +10,7 @@ use Rattle.literals.specs.Bits.{Bits, valueOf}
 use Rattle.literals.specs.Patterns.{IpRange}
 use Rattle.literals.proofs.Logic.{eqb-is}
 use Rattle.expr.specs.Answers.{andThen, ok, refuse}
-use Rattle.expr.specs.Form.{Fits, RecordFits, Within, decode, encode, matchRecord, nameRecord, rangedRecord}
+use Rattle.expr.specs.Form.{Fits, RecordFits, Within, decode, encode, nameRecord, rangedRecord}
 use Rattle.expr.specs.Terms.{Alias, Direct, Expr, LetBitRange, Matches, Name, Ranged, Use, Where}
 use Rattle.expr.proofs.FormTheorem.{decode-encode}
 use Rattle.desugar.specs.Rules.{patternRule, rangeRule}
@@ -95,15 +95,12 @@ module _ (t : Expr) (a b : Bits) (n at : ℕ) (formed : decode (encode t) ≡ ok
 
 -- the two terms that are one: the range written out, and by an alias
 module _ (s e : ℕ) (a b : Bits) (order : s ≤ e) (inside : e < 2 ^ 32) (shortA : length a ≤ 192) (shortB : length b ≤ 192) where
-  bounds-fit : (kind name start end : ℕ) → name < 2 ^ 16 → start < 2 ^ 32 → end < 2 ^ 32 → RecordFits (matchRecord kind name start end (IpRange a b))
-  bounds-fit kind name start end n k l = record { name = n; start = k; end = l; number = omega arith; litA = shortA; litB = shortB }
-
   pub range-direct : let t : Expr = Ranged (Direct s e) (Matches (IpRange a b)) in
       (Good (encode t) t ↔ ((e - s ≤ 128) × (length a ≤ e - s) × (length b ≤ e - s) × (valueOf a ≤ valueOf b)))
       × (129 ≤ e - s → checkBytes (encode t) ≡ refuse 20 0)
   range-direct =
       let t : Expr = Ranged (Direct s e) (Matches (IpRange a b)) in
-      let f = bounds-fit 25 0 s e (omega arith) (omega arith) inside in
+      let f = record-fits a shortA 25 0 s e 3 0 b (omega arith) (omega arith) inside (omega arith) shortB in
       range-judged t a b (e - s) 0 (decode-encode t (record { count = omega arith; deep = omega arith; fits = f })) (rw (le-leb s e order) refl)
 
   pub range-alias : (x : Name) → x < 2 ^ 16 → let t : Expr = LetBitRange x s e (Ranged (Alias x) (Matches (IpRange a b))) in
@@ -111,6 +108,6 @@ module _ (s e : ℕ) (a b : Bits) (order : s ≤ e) (inside : e < 2 ^ 32) (short
       × (129 ≤ e - s → checkBytes (encode t) ≡ refuse 20 1)
   range-alias x named =
       let t : Expr = LetBitRange x s e (Ranged (Alias x) (Matches (IpRange a b))) in
-      let f : Fits t = (alias-fits x s e named (omega arith) inside, bounds-fit 26 x 0 0 named (omega arith) (omega arith)) in
+      let f : Fits t = (alias-fits x s e named (omega arith) inside, record-fits a shortA 26 x 0 0 3 0 b named (omega arith) (omega arith) (omega arith) shortB) in
       range-judged t a b (e - s) 1 (decode-encode t (record { count = omega arith; deep = omega arith; fits = f }))
       (rw (eqb-is x x .1 refl, le-leb s e order) refl)
