@@ -56,7 +56,7 @@ allFalse [] = true
 allFalse (b ∷ a) = not b && allFalse a
 
 -- "Term bytes": "a length byte (0 is 4, over 128 is 5, both before its bits are looked for), then bits, least significant
--- first, spare high bits zero (else 4)"; by change 6 "over 192"
+-- first, spare high bits zero (else 4)"; by change 6 of document 02 over 192 is 5
 abbrev pub literal : Reads Bits
 literal =
     byte >>= λ n.

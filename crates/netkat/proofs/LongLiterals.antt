@@ -1,23 +1,22 @@
 -- Literals of every length within the limit are accepted over their own fields; range patterns keep a limit of their own.
 use mathlib.Core.Path.{_≡_, refl, sym, _∙_}
-use mathlib.Core.Logic.{_↔_}
 use mathlib.Core.List.{[]}
 use Prim.Native.Nat.{ℕ, _+_, _-_, _^_, _≤_, _<_}
 use native.Mathlib.Omega.{arith}
 use borrow.Author.Tests.{le-leb}
 use lib.ListN.{length}
-use Rattle.literals.specs.Bits.{Bits, valueOf}
+use Rattle.literals.specs.Bits.{Bits}
 use Rattle.literals.specs.Patterns.{IpRange}
 use Rattle.literals.proofs.Logic.{eqb-is}
-use Rattle.expr.specs.Answers.{andThen, ok, refuse}
+use Rattle.expr.specs.Answers.{andThen, ok}
 use Rattle.expr.specs.Form.{Fits, RecordFits, Within, decode, encode, nameRecord, rangedRecord}
 use Rattle.expr.specs.Terms.{Alias, Direct, Expr, LetBitRange, Matches, Name, Ranged, Use, Where}
 use Rattle.expr.proofs.FormTheorem.{decode-encode}
 use Rattle.desugar.specs.Rules.{patternRule, rangeRule}
 use Rattle.desugar.proofs.Decides.{UseSuits, decided, decides-ok, pattern-decides, range-decides}
 use Rattle.desugar.proofs.RuleLaws.{values-wide}
-use Rattle.netkat.specs.Check.{checkBytes, firstFailure}
-use Rattle.netkat.specs.Claims.{Good, TakesWhole, assign, cidr, exact, test, wildcard}
+use Rattle.netkat.specs.Check.{firstFailure}
+use Rattle.netkat.specs.Claims.{Accepted, RangeLimit, TakesWhole, assign, cidr, exact, test, wildcard}
 use Rattle.netkat.specs.Points.{walk}
 use Rattle.netkat.proofs.Rules.{behind-rule, none-fails}
 
@@ -59,16 +58,16 @@ module _ (a : Bits) (short : length a ≤ 192) where
     kept : (w : Where) (at : ℕ) → rangeRule w u (s, s + length a) at ≡ ok tt
     kept w at = decides-ok (range-decides w u (s, s + length a) at) (omega arith, suits w (s + length a - s) (omega arith) u t)
 
-    pub good-direct : let d : Expr = Ranged (Direct s (s + length a)) u in Good (encode d) d
-    good-direct =
+    pub accepted-direct : Accepted (Ranged (Direct s (s + length a)) u)
+    accepted-direct =
         let d : Expr = Ranged (Direct s (s + length a)) u in
         record {
           form = decode-encode d (record { count = omega arith; deep = omega arith; fits = fits (Direct s (s + length a)) (omega arith, omega arith) u t });
           rules = none-fails (walk [] d 0) .0 (rw (kept (Direct s (s + length a)) 0) refl);
         }
 
-    pub good-alias : (x : Name) → x < 2 ^ 16 → let d : Expr = LetBitRange x s (s + length a) (Ranged (Alias x) u) in Good (encode d) d
-    good-alias x named =
+    pub accepted-alias : (x : Name) → x < 2 ^ 16 → Accepted (LetBitRange x s (s + length a) (Ranged (Alias x) u))
+    accepted-alias x named =
         let d : Expr = LetBitRange x s (s + length a) (Ranged (Alias x) u) in
         let f : Fits d = (alias-fits x s (s + length a) named (omega arith) (omega arith), fits (Alias x) named u t) in
         record {
@@ -77,35 +76,27 @@ module _ (a : Bits) (short : length a ≤ 192) where
         }
 
 -- a term in which the range pattern from a to b on n fields is judged at a place, and no other rule
-module _ (t : Expr) (a b : Bits) (n at : ℕ) (formed : decode (encode t) ≡ ok t)
-    (judged : firstFailure (walk [] t 0) ≡ andThen (patternRule (IpRange a b) n at) (λ _. ok tt)) where
-  good-exactly : Good (encode t) t ↔ ((n ≤ 128) × (length a ≤ n) × (length b ≤ n) × (valueOf a ≤ valueOf b))
-  good-exactly =
-      let d = pattern-decides (IpRange a b) n at in (
-        (λ g. decided d (behind-rule (patternRule (IpRange a b) n at) (sym judged ∙ none-fails (walk [] t 0) .1 (g .rules)) .0)),
+range-judged : (t : Expr) (a b : Bits) (n at : ℕ) → decode (encode t) ≡ ok t
+    → firstFailure (walk [] t 0) ≡ andThen (patternRule (IpRange a b) n at) (λ _. ok tt) → RangeLimit t a b n at
+range-judged t a b n at formed judged =
+    let rule = patternRule (IpRange a b) n at in
+    let d = pattern-decides (IpRange a b) n at in (
+      (
+        (λ g. decided d (behind-rule rule (sym judged ∙ none-fails (walk [] t 0) .1 (g .rules)) .0)),
         (λ h. record { form = formed; rules = none-fails (walk [] t 0) .0 (judged ∙ rw (decides-ok d h) refl) }),
-      )
-
-  wide-refused : 129 ≤ n → checkBytes (encode t) ≡ refuse 20 at
-  wide-refused h = rw (formed, judged, sym (values-wide a b n at h)) refl
-
-  pub range-judged : (Good (encode t) t ↔ ((n ≤ 128) × (length a ≤ n) × (length b ≤ n) × (valueOf a ≤ valueOf b)))
-      × (129 ≤ n → checkBytes (encode t) ≡ refuse 20 at)
-  range-judged = (good-exactly, wide-refused)
+      ),
+      λ wide. rw (formed, judged, sym (values-wide a b n at wide)) refl,
+    )
 
 -- the two terms that are one: the range written out, and by an alias
 module _ (s e : ℕ) (a b : Bits) (order : s ≤ e) (inside : e < 2 ^ 32) (shortA : length a ≤ 192) (shortB : length b ≤ 192) where
-  pub range-direct : let t : Expr = Ranged (Direct s e) (Matches (IpRange a b)) in
-      (Good (encode t) t ↔ ((e - s ≤ 128) × (length a ≤ e - s) × (length b ≤ e - s) × (valueOf a ≤ valueOf b)))
-      × (129 ≤ e - s → checkBytes (encode t) ≡ refuse 20 0)
+  pub range-direct : RangeLimit (Ranged (Direct s e) (Matches (IpRange a b))) a b (e - s) 0
   range-direct =
       let t : Expr = Ranged (Direct s e) (Matches (IpRange a b)) in
       let f = record-fits a shortA 25 0 s e 3 0 b (omega arith) (omega arith) inside (omega arith) shortB in
       range-judged t a b (e - s) 0 (decode-encode t (record { count = omega arith; deep = omega arith; fits = f })) (rw (le-leb s e order) refl)
 
-  pub range-alias : (x : Name) → x < 2 ^ 16 → let t : Expr = LetBitRange x s e (Ranged (Alias x) (Matches (IpRange a b))) in
-      (Good (encode t) t ↔ ((e - s ≤ 128) × (length a ≤ e - s) × (length b ≤ e - s) × (valueOf a ≤ valueOf b)))
-      × (129 ≤ e - s → checkBytes (encode t) ≡ refuse 20 1)
+  pub range-alias : (x : Name) → x < 2 ^ 16 → RangeLimit (LetBitRange x s e (Ranged (Alias x) (Matches (IpRange a b)))) a b (e - s) 1
   range-alias x named =
       let t : Expr = LetBitRange x s e (Ranged (Alias x) (Matches (IpRange a b))) in
       let f : Fits t = (alias-fits x s e named (omega arith) inside, record-fits a shortA 26 x 0 0 3 0 b named (omega arith) (omega arith) (omega arith) shortB) in

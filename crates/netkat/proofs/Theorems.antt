@@ -8,7 +8,7 @@ use mathlib.Core.List.{List, [], _∷_, map, List·Memᴰ}
 use Prim.Native.Nat.{ℕ, _+_, _-_, _^_, _≤_, _<_}
 use native.Mathlib.Nat.{zero-add}
 use lib.ListN.{length}
-use Rattle.literals.specs.Bits.{Bits, Bytes, bitsOf, valueOf}
+use Rattle.literals.specs.Bits.{Bits, Bytes, bitsOf}
 use Rattle.literals.specs.Patterns.{IpRange}
 use Rattle.literals.specs.Reading.{fault, literal}
 use Rattle.literals.proofs.Codec.{literal-limit}
@@ -25,7 +25,7 @@ use Rattle.desugar.specs.Probes.{answered, computed, further, longer, refusals,
 use Rattle.desugar.proofs.Limit.{limit}
 use Rattle.desugar.proofs.Probes.{further-probes, longer-probes, refused-probes, starred-probes, too-long-probes}
 use Rattle.netkat.specs.Check.{RulesHold, check, checkBytes, firstFailure, testSort}
-use Rattle.netkat.specs.Claims.{AtPoint, Desugared, Desugars, Good, Inside, PointAt, Refusal, TakesWhole}
+use Rattle.netkat.specs.Claims.{Accepted, AtPoint, Desugared, Desugars, Good, Inside, PointAt, RangeLimit, Refusal, TakesWhole}
 use Rattle.netkat.specs.Demands.{Declined, Demand1, Demand2, Demand3}
 use Rattle.netkat.specs.Entry.{Answers, Call}
 use Rattle.netkat.specs.Points.{Point, Scope, definitions, desugarAt, walk}
@@ -33,7 +33,7 @@ use Rattle.netkat.specs.declared.Answer.{Answer as HostAnswer}
 use Rattle.netkat.proofs.AtPoint.{desugar-at-answers, desugar-at-means, desugar-at-succeeds}
 use Rattle.netkat.proofs.Demands.{each-call, never-zero, points-and-whole, trees-and-forms}
 use Rattle.netkat.proofs.Inside.{each-record, inside-points, walk-inside, walk-length}
-use Rattle.netkat.proofs.LongLiterals.{good-alias, good-direct, range-alias, range-direct}
+use Rattle.netkat.proofs.LongLiterals.{accepted-alias, accepted-direct, range-alias, range-direct}
 use Rattle.netkat.proofs.Numbers.{Numbered, desugar-at-numbers}
 use Rattle.netkat.proofs.Rules.{behind-rule, none-fails, rules-append}
 use Rattle.netkat.proofs.Whole.{check-bytes, desugar-bytes, desugared-bytes, refused-bytes}
@@ -185,20 +185,14 @@ literal-limit-theorem = literal-limit
 -- test of it, an assignment, an Exact, a CIDR and a wildcard over all its fields (specs/Claims.antt: TakesWhole), written out or by an alias, have
 -- good form and keep the rules. Which values the core holds of, or sets, `demand-2` (forms) says for every length
 pub long-literal-theorem : (a : Bits) → length a ≤ 192 → (s : ℕ) → s + length a < 2 ^ 32 → (u : Use) → TakesWhole a u
-    → (let e : Expr = Ranged (Direct s (s + length a)) u in Good (encode e) e)
-    × ((x : Name) → x < 2 ^ 16 → let e : Expr = LetBitRange x s (s + length a) (Ranged (Alias x) u) in Good (encode e) e)
-long-literal-theorem a short s inside u t = (good-direct a short s inside u t, good-alias a short s inside u t)
+    → Accepted (Ranged (Direct s (s + length a)) u)
+    × ((x : Name) → x < 2 ^ 16 → Accepted (LetBitRange x s (s + length a) (Ranged (Alias x) u)))
+long-literal-theorem a short s inside u t = (accepted-direct a short s inside u t, accepted-alias a short s inside u t)
 
--- "Range patterns keep their 128-bit field limit.": on the fields from s up to e, written out or by an alias, one is accepted exactly if these are
--- 128 at most, the bounds no longer than that, and the lower one not above the higher. On more fields Check refuses it by 20 at its record,
--- whatever the bounds
+-- "Range patterns keep their 128-bit field limit.": on the fields from s up to e, written out or by an alias (specs/Claims.antt: RangeLimit)
 pub range-limit-theorem : (s e : ℕ) (a b : Bits) → s ≤ e → e < 2 ^ 32 → length a ≤ 192 → length b ≤ 192
-    → (let t : Expr = Ranged (Direct s e) (Matches (IpRange a b)) in
-    (Good (encode t) t ↔ ((e - s ≤ 128) × (length a ≤ e - s) × (length b ≤ e - s) × (valueOf a ≤ valueOf b)))
-    × (129 ≤ e - s → checkBytes (encode t) ≡ refuse 20 0))
-    × ((x : Name) → x < 2 ^ 16 → let t : Expr = LetBitRange x s e (Ranged (Alias x) (Matches (IpRange a b))) in
-    (Good (encode t) t ↔ ((e - s ≤ 128) × (length a ≤ e - s) × (length b ≤ e - s) × (valueOf a ≤ valueOf b)))
-    × (129 ≤ e - s → checkBytes (encode t) ≡ refuse 20 1))
+    → RangeLimit (Ranged (Direct s e) (Matches (IpRange a b))) a b (e - s) 0
+    × ((x : Name) → x < 2 ^ 16 → RangeLimit (LetBitRange x s e (Ranged (Alias x) (Matches (IpRange a b)))) a b (e - s) 1)
 range-limit-theorem s e a b h k l m = (range-direct s e a b h k l m, range-alias s e a b h k l m)
 
 -- label stacks of 192 bits in each use and two range patterns on 128 fields, with their cores; what is refused at the limits

@@ -3,10 +3,10 @@
 use mathlib.Core.{Path._≡_, Logic._↔_, Bool.true, List.List, List.[], List._∷_, List._++_, List.List·Memᴰ}
 use Prim.Native.Nat.{ℕ, _+_, _^_, _≤_, _<_}
 use lib.{ListN.length}
-use Rattle.literals.specs.{Bits.Bits, Patterns.Exact, Patterns.Cidr, Patterns.Wildcard}
-use Rattle.expr.specs.{Answers.Answer, Answers.ok, Answers.refuse, Answers.mapAnswer, Answers.andThen, Terms.Zero, Terms.One, Terms.Top, Terms.Dup, Terms.End, Terms.Assign, Terms.Test, Terms.Op1, Terms.Op2, Terms.Core, Terms.Name, Terms.Expr, Terms.Plain, Terms.Unary, Terms.Binary, Terms.TestNegation, Terms.IfThenElse, Terms.Let, Terms.LetBitRange, Terms.Var, Terms.Ranged, Terms.Use, Terms.Assigns, Terms.Tests, Terms.Matches, Terms.atomKind, Terms.op1Kind, Terms.op2Kind, Terms.records, Form.decode, Form.encodeCore, Form.rangedRecord}
+use Rattle.literals.specs.{Bits.Bits, Bits.valueOf, Patterns.Exact, Patterns.Cidr, Patterns.Wildcard}
+use Rattle.expr.specs.{Answers.Answer, Answers.ok, Answers.refuse, Answers.mapAnswer, Answers.andThen, Terms.Zero, Terms.One, Terms.Top, Terms.Dup, Terms.End, Terms.Assign, Terms.Test, Terms.Op1, Terms.Op2, Terms.Core, Terms.Name, Terms.Expr, Terms.Plain, Terms.Unary, Terms.Binary, Terms.TestNegation, Terms.IfThenElse, Terms.Let, Terms.LetBitRange, Terms.Var, Terms.Ranged, Terms.Use, Terms.Assigns, Terms.Tests, Terms.Matches, Terms.atomKind, Terms.op1Kind, Terms.op2Kind, Terms.records, Form.decode, Form.encode, Form.encodeCore, Form.rangedRecord}
 use Rattle.desugar.specs.{Bindings.variable, Bindings.range, Meter.spent, Meter.drawn, Meter.overdrawn, Desugar.desugar, Desugar.desugarBytes, Desugar.maxAllowance, Desugar.workFor, Negation.isTest, Packets.oneStep, Packets.OneStep, Packets.Others, Packets.Packet, Packets.coreMeans, Claims.Limit}
-use Rattle.netkat.specs.{Points.Scope, Points.Point, Points.walk, Points.definitions, Points.desugarAt, Points.meansAt, Points.oneSteps, Check.RulesHold, Check.firstFailure, Check.sorts, Check.testSort}
+use Rattle.netkat.specs.{Points.Scope, Points.Point, Points.walk, Points.definitions, Points.desugarAt, Points.meansAt, Points.oneSteps, Check.RulesHold, Check.firstFailure, Check.sorts, Check.testSort, Check.checkBytes}
 
 -- ## Points
 
@@ -129,6 +129,10 @@ pub record Desugared (bs : List ℕ) (out : List ℕ) (m : ℕ) : Type 0 where
 
 -- ## Change 6 of document 02
 
+-- the term's bytes have good form, and the rules hold
+abbrev pub Accepted : Expr → Type 0
+Accepted e = Good (encode e) e
+
 -- "Everything that takes or compares a literal": the uses that take the whole literal `a`, where there are as many fields as it has bits. A range
 -- pattern is none of them: it has a limit of its own
 pub data TakesWhole (a : Bits) : Use → Type 0 where
@@ -137,3 +141,11 @@ pub data TakesWhole (a : Bits) : Use → Type 0 where
   exact : TakesWhole a (Matches (Exact a))
   cidr : (k : ℕ) → k ≤ length a → TakesWhole a (Matches (Cidr a k))
   wildcard : (m : Bits) → length m ≡ length a → TakesWhole a (Matches (Wildcard a m))
+
+-- "Range patterns keep their 128-bit field limit.": of a term whose one rule is that of the range pattern from a to b on n fields, at the record `at`.
+-- It is accepted exactly if these are 128 at most, the bounds no longer than that, and the lower one not above the higher; with more fields Check
+-- refuses it by 20 there, whatever the bounds
+abbrev pub RangeLimit : Expr → (a b : Bits) → (n at : ℕ) → Type 0
+RangeLimit e a b n at =
+    (Accepted e ↔ ((n ≤ 128) × (length a ≤ n) × (length b ≤ n) × (valueOf a ≤ valueOf b)))
+    × (129 ≤ n → checkBytes (encode e) ≡ refuse 20 at)
