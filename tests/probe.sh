@@ -30,5 +30,10 @@ prints 'the longest term that is read' 'no 8 1' < <(head -c 8192 /dev/zero)
 prints 'one byte more' long < <(head -c 8193 /dev/zero)
 prints 'no bytes' 'no 1 0' < /dev/null
 
+# A label stack of 192 bits, of which a prefix of 2 tests the fields 190 and 191; a test of 193 bits, all of them zero.
+prints 'a literal of 192 bits' $'ok 3 15\n01080506be0000002506bf00000001' \
+    < <(printf '\x79\x19\xc0\0\0\0\x01\x02\xc0\xff\xff\xff\xff'; head -c 19 /dev/zero; printf '\x80')
+prints 'a literal of 193 bits' 'no 5 0' < <(printf '\x49\x18\xc1\0\0\0\xc1'; head -c 25 /dev/zero)
+
 echo "$passed passed, $failed failed"
 [ "$failed" -eq 0 ]
