@@ -1,5 +1,6 @@
 #!/bin/sh
-# Instructions of one call of each operation on terms of growing size, counted by valgrind's callgrind: they repeat.
+# Instructions of one call of each operation on terms of growing size, then of Check on range patterns of growing width, counted by valgrind's
+# callgrind: they repeat.
 # Needs what bench/run.sh needs, and valgrind.
 here=$(dirname "$0")/../oracle
 . "$here/prepare.sh"
@@ -29,4 +30,15 @@ for family in access_list first_match tenants wide_test lets complement_lets uni
             "$(each netkat_check "$1" "$term") | $(each netkat_is_test_fragment "$1" "$term") | $(each netkat_num_fields "$1" "$term") |" \
             "$(each netkat_substitute "$1" "$term") |"
     done
+done
+
+echo
+echo "| first bit that differs in the bounds | check, 8 fields | 32 fields | 64 fields | 128 fields |"
+echo "|---|---|---|---|---|"
+for differs in top lowest none; do
+    line="| $differs |"
+    for width in 8 32 64 128; do
+        line="$line $(instructions netkat_check "$terms/bounds_$differs-$width.bin") |"
+    done
+    echo "$line"
 done

@@ -1,4 +1,4 @@
-# Sourced by oracle/run.sh, oracle/readback/run.sh and the scripts of bench/ with the folder oracle/ in $here. Makes ORACLE_SEEDS, the folder that holds the
+# Sourced by oracle/run.sh, bounds.sh, readback/run.sh and the scripts of bench/ with the folder oracle/ in $here. Makes ORACLE_SEEDS, the folder that holds the
 # original's expr.rs and desugar.rs, absolute; goes to oracle/; builds target/staticlib/libnetkat.a if it is not there or older than a source.
 # With NETKAT_LIB_DIR, the archive in that folder is taken as it is.
 if [ ! -d "${ORACLE_SEEDS:-}" ]; then

@@ -426,6 +426,24 @@ def subrange(a, b, s, e):
     return f"ok {a + s} {a + e}"
 
 
+def lent(bits, data):
+    """The value of a lent bound; spare bits and further bytes do not count."""
+    if bits > MAX_LITERAL:
+        no(5, 0)
+    if 8 * len(data) < bits:
+        no(1, 0)
+    return int.from_bytes(data, "little") % (1 << bits)
+
+
+def compare(width, a_bits, a, b_bits, b):
+    """Document 02, change 2; refused as the bounds of a range pattern."""
+    a, b = lent(a_bits, a), lent(b_bits, b)
+    if max(a_bits, b_bits) > width or width > MAX_RANGE_BITS:
+        no(20, 0)
+    equal_above = width - (a ^ b).bit_length()
+    return f"ok {1 if a < b else 2 if a > b else 0} {min(width, equal_above + 1)}"
+
+
 def program(t):
     if len(t) > 8192:
         return "long"
@@ -455,6 +473,8 @@ def answer(q):
             return f"ok {fields(form(unhex(w[1])))}"
         if w[0] == "subrange":
             return subrange(*map(int, w[1:]))
+        if w[0] == "compare":
+            return compare(int(w[1]), int(w[2]), unhex(w[3]), int(w[4]), unhex(w[5]))
         return program(unhex(w[0]))
     except No as e:
         return f"no {e.args[0]} {e.args[1]}"

@@ -2,13 +2,14 @@
 # cases.py VECTORS... > FILE: turns vector lines (docs/TESTS.md has their form) into the file that the program `replay` reads.
 #
 # A case is a head of 32 bytes, then the term, the replacement, and the bytes that a successful Substitute or Desugar must write. The
-# head, numbers little-endian: operation (1 check, 2 fragment, 3 fields, 4 substitute, 5 desugar, 6 subrange), 1 for success or 0 for a
-# refusal, name (2 bytes), lengths of the term, of the replacement and of the answer buffer, allowance, length of work memory, then of a
-# success the two values, of a refusal its number and place (4 bytes each). What an operation does not take is 0. The term of a
-# subrange is its four numbers.
+# head, numbers little-endian: operation (1 check, 2 fragment, 3 fields, 4 substitute, 5 desugar, 6 subrange, 7 compare), 1 for success or
+# 0 for a refusal, name (2 bytes), lengths of the term, of the replacement and of the answer buffer, allowance, length of work memory, then
+# of a success the two values, of a refusal its number and place (4 bytes each). What an operation does not take is 0. The term of a
+# subrange is its four numbers. A comparison has the bytes of its two bounds for term and replacement, the width for the allowance, and the
+# bounds' lengths in bits for the lengths of work memory and answer buffer.
 import struct, sys
 
-CHECK, FRAGMENT, FIELDS, SUBSTITUTE, DESUGAR, SUBRANGE = 1, 2, 3, 4, 5, 6
+CHECK, FRAGMENT, FIELDS, SUBSTITUTE, DESUGAR, SUBRANGE, COMPARE = 1, 2, 3, 4, 5, 6, 7
 WITH_ONE_VALUE = {"check": CHECK, "fragment": FRAGMENT, "fields": FIELDS}
 
 
@@ -27,6 +28,10 @@ def of_line(line):
     operation, ok = words[0], answer[0] == "ok"
     if operation == "subrange":
         return case(SUBRANGE, ok, struct.pack("<IIII", *map(int, words[1:5])), int(answer[1]), int(answer[2]))
+    if operation == "compare":
+        width, a_bits, b_bits = (int(words[i]) for i in (1, 2, 4))
+        taken = {"replacement": unhex(words[5]), "allowance": width, "work": a_bits, "room": b_bits}
+        return case(COMPARE, ok, unhex(words[3]), int(answer[1]), int(answer[2]), **taken)
     term = unhex(words[1])
     if operation in WITH_ONE_VALUE:
         second = 0 if ok else int(answer[2])

@@ -6,6 +6,7 @@ pub mod pre {
 }
 include!(concat!(env!("OUT_DIR"), "/modules.rs"));
 mod bench;
+mod bounds;
 mod compare;
 mod gen;
 mod meaning;
@@ -22,6 +23,7 @@ oracle long SEED COUNT BUDGET THREADS       the same, each with a literal of mor
 oracle exhaustive LENGTH                    all byte strings up to LENGTH; beyond 2 bytes, those of good form
 oracle meaning SEED COUNT                   packet meaning of a written term and of its core, on six fields
 oracle sample SEED COUNT BUDGET             random vector lines with the model's answers
+oracle bounds SEED COUNT                    lines that compare bounds, all small ones and random ones, with the model's answers
 oracle answer                               completes the vector lines on standard input, from what stands before =>
 oracle show HEX                             what each makes of one term
 oracle bench FOLDER                         times of the port and of the original
@@ -61,6 +63,7 @@ fn run(args: Vec<String>) -> bool {
         "exhaustive" => compare::exhaustive(n(2) as usize).print(),
         "meaning" => meaning::run(n(2), n(3)),
         "sample" => vectors::sample(n(2), n(3), n(4) as i64),
+        "bounds" => vectors::bounds(n(2), n(3)),
         "answer" => vectors::answer(),
         "show" if args.len() == 3 => compare::show(&vectors::unhex(&args[2])),
         "bench" if args.len() == 3 => bench::run(&args[2]),

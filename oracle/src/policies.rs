@@ -216,8 +216,15 @@ pub fn small_and_lists() -> Vec<(String, Vec<u8>)> {
     .into()
 }
 
-/// The same policies from about 1,000 to about 60,000 drawn nodes, or to the deepest term that is allowed; and one large core below more and
-/// more Lets.
+/// A range pattern on `width` fields whose bounds differ in the bit `differs` alone, or in none.
+fn bounds(width: usize, differs: Option<usize>) -> Node {
+    let low: Vec<bool> = (0..width).map(|i| i % 2 == 1 && Some(i) != differs).collect();
+    let high = low.iter().enumerate().map(|(i, &bit)| bit || Some(i) == differs).collect();
+    Node { kind: RANGEMATCH, end: width as u32, pat: 3, a: low, b: high, ..Node::default() }
+}
+
+/// The same policies from about 1,000 to about 60,000 drawn nodes, or to the deepest term that is allowed; one large core below more and
+/// more Lets; and range patterns, by the first bit in which their bounds differ.
 pub fn growing() -> Vec<(String, Vec<u8>)> {
     let mut all = Vec::new();
     let mut add = |family: &str, size: u32, tree: Node| all.push((format!("{family}-{size}"), encoded(&tree)));
@@ -237,6 +244,11 @@ pub fn growing() -> Vec<(String, Vec<u8>)> {
         add("lets", n, below_lets(n, |inner| inner));
         add("complement_lets", n, below_lets(n, |inner| node(COMPLEMENT, vec![inner])));
         add("union_lets", n, below_lets(n, |inner| two(UNION, node(ZERO, vec![]), inner)));
+    }
+    for n in [8, 32, 64, 128] {
+        add("bounds_top", n, bounds(n as usize, Some(n as usize - 1)));
+        add("bounds_lowest", n, bounds(n as usize, Some(0)));
+        add("bounds_none", n, bounds(n as usize, None));
     }
     all
 }

@@ -9,9 +9,9 @@ use lib.Dec.{eqb, ltb}
 use lib.ListN.{length, length-take, take}
 use lib.Seq.{sets}
 use Rattle.literals.proofs.Bits.{value-of-pad}
+use Rattle.literals.proofs.Comparing.{isEqual}
 use Rattle.literals.specs.Bits.{Bits, valueOf}
-use Rattle.literals.specs.Results.{orderOf}
-use Rattle.literals.specs.declared.Order.{Order}
+use Rattle.literals.specs.Comparing.{orderOf}
 use Rattle.literals.specs.declared.Order.the-variants.{Above, Below, Equal}
 use Rattle.expr.specs.Terms.{Core, Intersect, Test, size, two}
 use Rattle.desugar.specs.LeafWords.{betweenCaseSize, betweenSize, boundSize, differencesSize, stretch}
@@ -45,11 +45,6 @@ pub bound-most : (d : Bool) (a : Bits) (w : ℕ) → w ≤ 128 → boundSize d (
 bound-most d a w h = let l = length-stretch a 0 w in omega (arith, differences-most d (stretch a 0 w) (omega arith))
 
 -- ## Which case it is
-
-abbrev pub isEqual : Order → Bool
-isEqual Below = false
-isEqual Equal = true
-isEqual Above = false
 
 pub order-equal : (x y : ℕ) → isEqual (orderOf x y) ≡ eqb x y
 order-equal x y = go (ltb x y) (eqb x y) (λ e. ne-eqb x y (λ f. omega (arith, ltb-true x y e)))

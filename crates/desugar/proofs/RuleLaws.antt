@@ -9,7 +9,7 @@ use lib.ListN.{length}
 use Rattle.literals.proofs.Logic.{and-left, and-right}
 use Rattle.literals.specs.Bits.{Bits, valueOf}
 use Rattle.literals.specs.Patterns.{Cidr, Exact, IpRange, Wildcard}
-use Rattle.literals.specs.Results.{orderOf}
+use Rattle.literals.specs.Comparing.{orderOf}
 use Rattle.literals.specs.declared.Order.{Order}
 use Rattle.literals.specs.declared.Order.the-variants.{Above, Below, Equal}
 use Rattle.expr.specs.Answers.{Answer, andThen, need, ok, refuse}

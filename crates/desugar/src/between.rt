@@ -17,7 +17,8 @@ fn same_value(low: &[u8], low_bits: usize, high: &[u8], high_bits: usize, width:
     requires { ⌜ Widths «low_bits» «high_bits» width ⌝ }
     ensures { λ r. ⌜ r ≡ eqb (valueOf (take «low_bits» (unpack (now (low .entry))))) (valueOf (take «high_bits» (unpack (now (high .entry))))) ⌝ }
 {
-    match literals::compare(low, low_bits, high, high_bits, width) {
+    let order = literals::compare(low, low_bits, high, high_bits, width).order;
+    match order {
         Order::Below => false,
         Order::Equal => true,
         Order::Above => false,

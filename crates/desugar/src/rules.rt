@@ -72,7 +72,8 @@ fn values_rule(low: &[u8], low_bits: usize, high: &[u8], high_bits: usize, n: us
     if n < high_bits {
         return 20;
     }
-    match literals::compare(low, low_bits, high, high_bits, n) {
+    let order = literals::compare(low, low_bits, high, high_bits, n).order;
+    match order {
         Order::Below => 0,
         Order::Equal => 0,
         Order::Above => 21,

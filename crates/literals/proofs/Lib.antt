@@ -4,3 +4,4 @@ pub mod Bits
 pub mod Bytes
 pub mod Codec
 pub mod Values
+pub mod Comparing

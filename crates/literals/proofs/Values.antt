@@ -4,20 +4,16 @@ use mathlib.Core.Bool.{Bool, true, false, false≢true, true≢false}
 use mathlib.Core.List.{List, [], _∷_}
 use Prim.Native.Nat.{ℕ, zero, suc, _+_, _-_, _*_, _/_, _^_, _≤_, _<_}
 use native.Mathlib.Nat.{pow-succ'}
-use native.Mathlib.Decide.{decLt}
 use native.Mathlib.Numerals.{add-one}
 use native.Mathlib.Omega.{arith}
-use borrow.Author.Tests.{eq-eqb, ne-eqb, le-leb, lt-leb, le-ltb, lt-ltb}
+use borrow.Author.Tests.{eq-eqb, ne-eqb, le-leb, lt-leb}
 use lib.Dec.{eqb}
 use lib.ListN.{length, getD, take, drop, drop-of-length-le, length-take, length-drop, List·getD-eq-default}
 use lib.Seq.{take-all, drop-cons, drop-drop, length-take-le, getD-take, getD-drop}
 use Rattle.literals.specs.Bits.{Bits, bit, valueOf, bitsOf, unpack}
 use Rattle.literals.specs.Reading.{got, fault, goOn, give, ask, maxLiteral, bytesFor, allFalse, literal}
-use Rattle.literals.specs.Results.{orderOf, comparedOf}
-use Rattle.literals.specs.declared.Order.{Order}
-use Rattle.literals.specs.declared.Order.the-variants.{Below, Equal, Above}
 use Rattle.literals.proofs.Bits.{value-within, value-of-bits}
-use Rattle.literals.proofs.Bytes.{value-below-take, value-of-drop, take-unpack, drop-unpack}
+use Rattle.literals.proofs.Bytes.{value-of-drop, take-unpack, drop-unpack}
 use Rattle.literals.proofs.Codec.{chunk-take, chunk-lacks}
 
 -- ## Bits
@@ -54,39 +50,6 @@ bit-false (suc n) zero (true ∷ a) h k e = absurd (true≢false e)
 bit-false (suc n) zero (false ∷ a) h k e = rw (pow-succ' 2 n) (omega (arith, value-within n a (omega arith)))
 bit-false (suc n) (suc i) (true ∷ a) h k e = rw (pow-succ' 2 n) (omega (arith, bit-false n i a (omega arith) (omega arith) e))
 bit-false (suc n) (suc i) (false ∷ a) h k e = rw (pow-succ' 2 n) (omega (arith, bit-false n i a (omega arith) (omega arith) e))
-
--- ## Orders
-
-order-below : (x y : ℕ) → x < y → orderOf x y ≡ Below
-order-below x y h = rw (lt-ltb x y h)
-
-order-above : (x y : ℕ) → y < x → orderOf x y ≡ Above
-order-above x y h = rw (le-ltb x y (omega arith), ne-eqb x y (λ e. omega arith))
-
-order-equal : (x y : ℕ) → x ≡ y → orderOf x y ≡ Equal
-order-equal x y h = rw (le-ltb x y (omega arith), eq-eqb x y h)
-
-order-both : (x y k : ℕ) → orderOf (x + k) (y + k) ≡ orderOf x y
-order-both x y k = go (decLt x y) (decLt y x)
-  where
-    go : Dec (x < y) → Dec (y < x) → orderOf (x + k) (y + k) ≡ orderOf x y
-    go (yes h) t = order-below (x + k) (y + k) (omega arith) ∙ sym (order-below x y h)
-    go (no h) (yes g) = order-above (x + k) (y + k) (omega arith) ∙ sym (order-above x y g)
-    go (no h) (no g) = order-equal (x + k) (y + k) (omega arith) ∙ sym (order-equal x y (omega arith))
-
--- the order with one more bit each on top
-order-step : (n x y : ℕ) (p q : Bool) → x < n → y < n → orderOf (x + n * bit p) (y + n * bit q) ≡ comparedOf (orderOf x y) p q
-order-step n x y true true h k = order-both x y (n * 1)
-order-step n x y true false h k = order-above (x + n * 1) (y + n * 0) (omega arith)
-order-step n x y false true h k = order-below (x + n * 0) (y + n * 1) (omega arith)
-order-step n x y false false h k = order-both x y (n * 0)
-
-pub order-of-take : (i : ℕ) (a b : Bits) {o : Order} {p q : Bool}
-    → o ≡ orderOf (valueOf (take i a)) (valueOf (take i b)) → p ≡ getD a i false → q ≡ getD b i false
-    → comparedOf o p q ≡ orderOf (valueOf (take (i + 1) a)) (valueOf (take (i + 1) b))
-order-of-take i a b {o} {p} {q} e f g =
-    rw (value-of-take i a (sym f), value-of-take i b (sym g), e)
-    (sym (order-step (2 ^ i) (valueOf (take i a)) (valueOf (take i b)) p q (value-below-take i a) (value-below-take i b)))
 
 -- ## Spare bits
 

@@ -2,4 +2,5 @@
 pub mod Bits
 pub mod Patterns
 pub mod Reading
+pub mod Comparing
 pub mod Results

@@ -1,12 +1,11 @@
 -- What the functions of this crate answer, in the words of the definitions.
-use mathlib.Core.{Path._≡_, Bool.Bool, Bool.true, Bool.false, Bool.cond, List.List}
+use mathlib.Core.{Path._≡_, List.List}
 use Prim.Native.Nat.{ℕ, _+_, _≤_}
-use lib.{Dec.ltb, Dec.eqb, ListN.length, ListN.take, ListN.drop}
-use Rattle.literals.specs.{Bits.Bits, Bits.unpack, Reading.Read, Reading.got, Reading.fault, Reading.literal, Reading.maxLiteral, Reading.bytesFor}
+use lib.{ListN.length, ListN.take, ListN.drop}
+use Rattle.literals.specs.{Bits.Bits, Bits.valueOf, Bits.unpack, Reading.Read, Reading.got, Reading.fault, Reading.literal, Reading.maxLiteral, Reading.bytesFor, Comparing.orderOf, Comparing.lookedAt}
 use Rattle.literals.specs.declared.LiteralRead.{LiteralRead}
 use Rattle.literals.specs.declared.LiteralRead.the-variants.{Found, Refused}
-use Rattle.literals.specs.declared.Order.{Order}
-use Rattle.literals.specs.declared.Order.the-variants.{Below, Equal, Above}
+use Rattle.literals.specs.declared.Compared.{Compared}
 
 -- the bits of a literal that was read from the bytes s, and the bytes behind it; or the refusal's number
 abbrev pub literalAnswer : List ℕ → LiteralRead → Read Bits
@@ -22,13 +21,7 @@ pub record LiteralFound (s : List ℕ) (at : ℕ) (r : LiteralRead) : Type 0 whe
   pub answer : literalAnswer s r ≡ literal (drop at s)
   pub inside : LiteralInside s at r
 
--- how one number stands to another
-abbrev pub orderOf : ℕ → ℕ → Order
-orderOf a b = cond (ltb a b) Below (cond (eqb a b) Equal Above)
-
--- the same with one more bit each on top
-abbrev pub comparedOf : Order → Bool → Bool → Order
-comparedOf o true true = o
-comparedOf o true false = Above
-comparedOf o false true = Below
-comparedOf o false false = o
+-- a comparison of the bounds a and b over a field of w bits: by value, with the count of bits looked at
+pub record ComparedAs (w : ℕ) (a b : Bits) (r : Compared) : Type 0 where
+  pub order : r .order ≡ orderOf (valueOf a) (valueOf b)
+  pub looked : r .looked ≡ lookedAt w a b

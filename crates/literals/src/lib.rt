@@ -1,11 +1,12 @@
 // Literals: bits packed in bytes, lowest bit first. A literal is given by the bytes that its bits begin in, and how many bits it has.
 ghost use mathlib.Core.Path.{_≡_};
-ghost use mathlib.Core.Bool.{false};
+ghost use mathlib.Core.Bool.{false, cond};
 ghost use Prim.Native.Nat.{_+_, _^_, _≤_};
 ghost use lib.Dec.{eqb};
 ghost use lib.ListN.{length, getD, take};
 ghost use Rattle.literals.specs.Bits.{valueOf, unpack};
-ghost use Rattle.literals.specs.Results.{LiteralFound, orderOf, comparedOf};
+ghost use Rattle.literals.specs.Results.{LiteralFound, ComparedAs};
+ghost use Rattle.literals.specs.declared.Order.the-variants.{Below, Above};
 
 // The longest literal, in bits.
 pub const MAX_LITERAL: usize = 192;
@@ -27,6 +28,12 @@ pub enum Order {
     Below,
     Equal,
     Above,
+}
+
+// How one bound stands to another, and how many of the field's bits were looked at for that.
+pub struct Compared {
+    pub order: Order,
+    pub looked: usize,
 }
 
 // The bit at an index, and false beyond the end.
@@ -114,34 +121,37 @@ pub fn is_highest(bytes: &[u8], bits: usize, width: usize) -> bool
     true
 }
 
-// The order of two numbers with one more bit each on top, given the order without these.
-fn compared(below: Order, x: bool, y: bool) -> Order
-    ensures { λ r. ⌜ r ≡ comparedOf below x y ⌝ }
+// How two numbers stand to each other that are equal above a bit and differ in it: by that bit of the first.
+fn order_at(x: bool) -> Order
+    ensures { λ r. ⌜ r ≡ cond x Above Below ⌝ }
 {
     if x {
-        if y {
-            return below;
-        }
         return Order::Above;
     }
-    if y {
-        return Order::Below;
-    }
-    below
+    Order::Below
 }
 
-// How the values of two literals of at most `width` bits stand to each other.
-pub fn compare(a: &[u8], a_bits: usize, b: &[u8], b_bits: usize, width: usize) -> Order
+// How two bounds of at most `width` bits stand to each other by value, from the top bit of the field down to the first that differs.
+pub fn compare(a: &[u8], a_bits: usize, b: &[u8], b_bits: usize, width: usize) -> Compared
     requires { ⌜ («a_bits» ≤ width) × («b_bits» ≤ width) ⌝ }
-    ensures { λ r. ⌜ r ≡ orderOf (valueOf (take «a_bits» (unpack (now (a .entry))))) (valueOf (take «b_bits» (unpack (now (b .entry))))) ⌝ }
+    ensures { λ r. ⌜ ComparedAs width (take «a_bits» (unpack (now (a .entry)))) (take «b_bits» (unpack (now (b .entry)))) r ⌝ }
 {
-    let mut order = Order::Equal;
-    let mut i = 0;
-    while i < width {
+    let mut equal = 0;
+    while equal < width {
+        let looked = equal + 1;
+        let i = width - looked;
         let x = literal_bit(a, a_bits, i);
         let y = literal_bit(b, b_bits, i);
-        order = compared(order, x, y);
-        i += 1;
+        if x != y {
+            return Compared {
+                order: order_at(x),
+                looked,
+            };
+        }
+        equal = looked;
     }
-    order
+    Compared {
+        order: Order::Equal,
+        looked: width,
+    }
 }

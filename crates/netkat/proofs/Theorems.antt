@@ -7,11 +7,13 @@ use mathlib.Core.Bool.{Bool, true, false}
 use mathlib.Core.List.{List, [], _∷_, map, List·Memᴰ}
 use Prim.Native.Nat.{ℕ, _+_, _-_, _^_, _≤_, _<_}
 use native.Mathlib.Nat.{zero-add}
-use lib.ListN.{length}
+use lib.ListN.{length, getD}
 use Rattle.literals.specs.Bits.{Bits, Bytes, bitsOf}
+use Rattle.literals.specs.Comparing.{SameTop, StopsWhenDecided, lookedAt}
 use Rattle.literals.specs.Patterns.{IpRange}
 use Rattle.literals.specs.Reading.{fault, literal}
 use Rattle.literals.proofs.Codec.{literal-limit}
+use Rattle.literals.proofs.Comparing.{looked-none, looked-to-first, stops-when-decided}
 use Rattle.expr.specs.Answers.{ok, refuse}
 use Rattle.expr.specs.Form.{Within, decode, encode}
 use Rattle.expr.specs.Operations.{fieldsBytes, substituteBytes}
@@ -174,6 +176,30 @@ pub other-refusals-theorem : (fieldsBytes (encode (Plain (Test 4294967295 true))
     × (substituteBytes (encode (Unary Star (Var 1))) 1 (stars 255 (0 ∷ [])) 0 ≡ refuse 27 0)
     × (substituteBytes (encode (Var 1)) 1 (1 ∷ 1 ∷ []) 1 ≡ refuse 26 0)
 other-refusals-theorem = (refl, refl, refl, refl, refl, refl, refl)
+
+-- ## Change 2 of document 02: comparing bounds (literals/specs/Comparing.antt)
+
+-- "how many of the field's bits it looked at: one more than the equal bits above that one, or the field's width if none differs": of two bounds
+-- with n equal bits on top of a bit that differs, and of two that differ in none
+pub looked-at-theorem : (w : ℕ) (a b : Bits)
+    → ((n : ℕ) → n < w → SameTop w n a b → (getD a (w - (n + 1)) false ≡ getD b (w - (n + 1)) false → ⊥) → lookedAt w a b ≡ n + 1)
+    × (SameTop w w a b → lookedAt w a b ≡ w)
+looked-at-theorem w a b = (looked-to-first w a b, looked-none w a b)
+
+-- "stop when it's decided": as many top bits as are looked at decide the order of two bounds, whatever stands below, and no fewer do
+pub stops-when-decided-theorem : (w : ℕ) (a b : Bits) → length a ≤ w → length b ≤ w → StopsWhenDecided w a b
+stops-when-decided-theorem = stops-when-decided
+
+-- a field of no bits; the top bit; equal bounds; short bounds, whose false high bits are looked at too; the lowest of 128 bits
+pub counted-theorem : (lookedAt 0 [] [] ≡ 0)
+    × (lookedAt 8 (bitsOf 8 128) (bitsOf 8 127) ≡ 1)
+    × (lookedAt 128 (bitsOf 128 0) (bitsOf 128 (2 ^ 127)) ≡ 1)
+    × (lookedAt 8 (bitsOf 8 5) (bitsOf 8 5) ≡ 8)
+    × (lookedAt 8 (bitsOf 3 5) (bitsOf 8 4) ≡ 8)
+    × (lookedAt 8 (bitsOf 3 4) (bitsOf 8 64) ≡ 2)
+    × (lookedAt 8 [] [] ≡ 8)
+    × (lookedAt 128 (bitsOf 1 1) [] ≡ 128)
+counted-theorem = (refl, refl, refl, refl, refl, refl, refl, refl)
 
 -- ## Change 6 of document 02: literals of up to 192 bits
 

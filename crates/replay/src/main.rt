@@ -1,15 +1,19 @@
-// Runs the cases of the file `cases` through the exported functions, and compares each answer in full: number, place, values, every byte of
-// the answer buffer. Prints the index of each case that differs, then how many agree and how many there are. tools/cases.py makes the file
-// and says what a case is.
+// Runs the cases of the file `cases` through the exported functions and `literals::compare`, and compares each answer in full: number, place,
+// values, every byte of the answer buffer. Prints the index of each case that differs, then how many agree and how many there are.
+// tools/cases.py makes the file and says what a case is.
 ghost use Prim.Native.Nat.{_+_, _≤_, _<_};
 ghost use lib.ListN.{length};
 use libc::STDOUT_FILENO;
+use literals::Order;
 use netkat::Answer;
 
 // The longest answer buffer of a case, and what each of its bytes is before a call.
 const ROOM: usize = 9216;
 
 const MARK: u8 = 165;
+
+// The widest field of a range pattern.
+const MAX_RANGE_BITS: u32 = 128;
 
 // What each number of work memory is before a call: its answer does not depend on it.
 const USED: u32 = 0xa5a5_a5a5;
@@ -106,6 +110,16 @@ fn none() -> Answer {
     }
 }
 
+// A refusal at place 0.
+fn refused(number: u32) -> Answer {
+    Answer {
+        number,
+        place: 0,
+        first: 0,
+        second: 0,
+    }
+}
+
 // A Substitute with a buffer of `room` bytes.
 fn substituted(term: &[u8], name: u16, replacement: &[u8], out: &mut [u8], room: usize) -> Answer {
     if out.len() < room {
@@ -184,6 +198,55 @@ fn subrange(term: &[u8]) -> Answer {
     )
 }
 
+// The refusal of a lent literal: 5 if it is too long, 1 if bytes lack; else 0.
+fn lent(bytes: &[u8], bits: u32) -> u32 {
+    if literals::MAX_LITERAL < bits as usize {
+        return 5;
+    }
+    if bytes.len() < (bits as usize + 7) / 8 {
+        return 1;
+    }
+    0
+}
+
+fn order_number(order: Order) -> u32 {
+    match order {
+        Order::Equal => 0,
+        Order::Below => 1,
+        Order::Above => 2,
+    }
+}
+
+// The order and the count of bits, of two bounds that the field holds.
+fn compared(a: &[u8], a_bits: u32, b: &[u8], b_bits: u32, width: u32) -> Answer
+    requires { ⌜ («a_bits» ≤ width) × («b_bits» ≤ width) ⌝ }
+{
+    let got = literals::compare(a, a_bits as usize, b, b_bits as usize, width as usize);
+    let order = got.order;
+    Answer {
+        number: 0,
+        place: 0,
+        first: order_number(order),
+        second: got.looked as u32,
+    }
+}
+
+// The bounds of a range pattern, compared. `compare` refuses nothing, so its caller judges them: each literal, then by 20 the lengths.
+fn bounds(a: &[u8], a_bits: u32, b: &[u8], b_bits: u32, width: u32) -> Answer {
+    let first = lent(a, a_bits);
+    if first != 0 {
+        return refused(first);
+    }
+    let second = lent(b, b_bits);
+    if second != 0 {
+        return refused(second);
+    }
+    if MAX_RANGE_BITS < width || width < a_bits || width < b_bits {
+        return refused(20);
+    }
+    compared(a, a_bits, b, b_bits, width)
+}
+
 // Whether a case agrees with what the functions answer.
 fn agrees(case: Case, term: &[u8], replacement: &[u8], result: &[u8]) -> bool {
     let operation = case.operation;
@@ -197,6 +260,10 @@ fn agrees(case: Case, term: &[u8], replacement: &[u8], result: &[u8]) -> bool {
         4 => replaced(case, term, replacement, result),
         5 => cored(case, term, result),
         6 => agree(expected(case), subrange(term)),
+        7 => agree(
+            expected(case),
+            bounds(term, case.work, replacement, case.room, case.allowance),
+        ),
         _ => false,
     }
 }

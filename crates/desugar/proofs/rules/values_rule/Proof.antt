@@ -30,13 +30,13 @@ enum-told-3 : tie.Need-enum-told-3
 enum-told-3 c = search needs
 
 returns-4 : tie.Need-returns-4
-returns-4 c = λ at l k. values-judged (take (c .before .before .before .before .before .before .before .before .args .low-bits) (unpack (c .before .before .before .before .before .before .before .before .args .low .now))) (take (c .before .before .before .before .before .before .before .before .args .high-bits) (unpack (c .before .before .before .before .before .before .before .before .args .high .now))) (c .before .before .before .before .before .before .before .before .args .n) at (c .before .before .before .before .before .if1 .left) (omega (arith, l, c .before .before .before .before .if2 .left)) (omega (arith, k, c .before .before .before .if3 .left)) _ (sym (c .enum-told .given .1) ∙ c .before .before .compare .ensures)
+returns-4 c = λ at l k. values-judged (take (c .before .before .before .before .before .before .before .before .args .low-bits) (unpack (c .before .before .before .before .before .before .before .before .args .low .now))) (take (c .before .before .before .before .before .before .before .before .args .high-bits) (unpack (c .before .before .before .before .before .before .before .before .args .high .now))) (c .before .before .before .before .before .before .before .before .args .n) at (c .before .before .before .before .before .if1 .left) (omega (arith, l, c .before .before .before .before .if2 .left)) (omega (arith, k, c .before .before .before .if3 .left)) _ (sym (c .enum-told .given .1) ∙ c .before .before .compare .ensures .order)
 
 returns-5 : tie.Need-returns-5
-returns-5 c = λ at l k. values-judged (take (c .before .before .before .before .before .before .before .before .args .low-bits) (unpack (c .before .before .before .before .before .before .before .before .args .low .now))) (take (c .before .before .before .before .before .before .before .before .args .high-bits) (unpack (c .before .before .before .before .before .before .before .before .args .high .now))) (c .before .before .before .before .before .before .before .before .args .n) at (c .before .before .before .before .before .if1 .left) (omega (arith, l, c .before .before .before .before .if2 .left)) (omega (arith, k, c .before .before .before .if3 .left)) _ (sym (c .enum-told2 .given .1) ∙ c .before .before .compare .ensures)
+returns-5 c = λ at l k. values-judged (take (c .before .before .before .before .before .before .before .before .args .low-bits) (unpack (c .before .before .before .before .before .before .before .before .args .low .now))) (take (c .before .before .before .before .before .before .before .before .args .high-bits) (unpack (c .before .before .before .before .before .before .before .before .args .high .now))) (c .before .before .before .before .before .before .before .before .args .n) at (c .before .before .before .before .before .if1 .left) (omega (arith, l, c .before .before .before .before .if2 .left)) (omega (arith, k, c .before .before .before .if3 .left)) _ (sym (c .enum-told2 .given .1) ∙ c .before .before .compare .ensures .order)
 
 returns-6 : tie.Need-returns-6
-returns-6 c = λ at l k. values-judged (take (c .before .before .before .before .before .before .before .before .args .low-bits) (unpack (c .before .before .before .before .before .before .before .before .args .low .now))) (take (c .before .before .before .before .before .before .before .before .args .high-bits) (unpack (c .before .before .before .before .before .before .before .before .args .high .now))) (c .before .before .before .before .before .before .before .before .args .n) at (c .before .before .before .before .before .if1 .left) (omega (arith, l, c .before .before .before .before .if2 .left)) (omega (arith, k, c .before .before .before .if3 .left)) _ (sym (c .enum-told3 .given .1) ∙ c .before .before .compare .ensures)
+returns-6 c = λ at l k. values-judged (take (c .before .before .before .before .before .before .before .before .args .low-bits) (unpack (c .before .before .before .before .before .before .before .before .args .low .now))) (take (c .before .before .before .before .before .before .before .before .args .high-bits) (unpack (c .before .before .before .before .before .before .before .before .args .high .now))) (c .before .before .before .before .before .before .before .before .args .n) at (c .before .before .before .before .before .if1 .left) (omega (arith, l, c .before .before .before .before .if2 .left)) (omega (arith, k, c .before .before .before .if3 .left)) _ (sym (c .enum-told3 .given .1) ∙ c .before .before .compare .ensures .order)
 
 pub values-rule-spec : {M : Type 1} → statement M
 values-rule-spec =

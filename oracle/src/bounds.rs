@@ -1,0 +1,110 @@
+//! Comparing bounds (document 02, change 2): their order, and how many of the field's bits are looked at. The library exports no function for
+//! it, so these lines go through the program `replay` (bounds.sh) and second.py. A line's refusals are those of a caller that is lent
+//! the bounds and judges them as a range pattern's.
+use crate::gen::Rng;
+use crate::model::{Res, MAX_LITERAL, MAX_RANGE_BITS};
+
+const EQUAL: u32 = 0;
+const BELOW: u32 = 1;
+const ABOVE: u32 = 2;
+
+/// A bound as it is lent: its length in bits, and bytes, of which some may lack or stand over.
+pub struct Bound {
+    pub bits: u32,
+    pub bytes: Vec<u8>,
+}
+
+impl Bound {
+    fn of(value: u128, bits: u32) -> Bound {
+        Bound { bits, bytes: value.to_le_bytes()[..bits.div_ceil(8) as usize].to_vec() }
+    }
+
+    fn judge(&self) -> Res<()> {
+        if self.bits as usize > MAX_LITERAL {
+            return Err((5, 0));
+        }
+        if self.bytes.len() < self.bits.div_ceil(8) as usize {
+            return Err((1, 0));
+        }
+        Ok(())
+    }
+
+    fn at(&self, i: u32) -> bool {
+        i < self.bits && self.bytes[i as usize / 8] >> (i % 8) & 1 == 1
+    }
+}
+
+/// The order's number and the count of bits, from the top bit to the first that differs.
+pub fn compare(width: u32, a: &Bound, b: &Bound) -> Res<(u32, u32)> {
+    a.judge()?;
+    b.judge()?;
+    if width as u64 > MAX_RANGE_BITS || a.bits > width || b.bits > width {
+        return Err((20, 0));
+    }
+    for (above, i) in (0..width).rev().enumerate() {
+        let looked = above as u32 + 1;
+        match (a.at(i), b.at(i)) {
+            (false, true) => return Ok((BELOW, looked)),
+            (true, false) => return Ok((ABOVE, looked)),
+            _ => {}
+        }
+    }
+    Ok((EQUAL, width))
+}
+
+/// All bounds over a field of `width` bits, at every length that it holds.
+fn all(width: u32) -> Vec<Bound> {
+    (0..=width).flat_map(|bits| (0..1 << bits).map(move |value| Bound::of(value, bits))).collect()
+}
+
+/// All pairs of bounds over fields of at most five bits, then `count` random ones.
+pub fn pairs(seed: u64, count: u64) -> Vec<(u32, Bound, Bound)> {
+    let mut pairs = Vec::new();
+    for width in 0..=5 {
+        for a in all(width) {
+            pairs.extend(all(width).into_iter().map(|b| (width, Bound { bits: a.bits, bytes: a.bytes.clone() }, b)));
+        }
+    }
+    let random = (0..count).map(|i| random(&mut Rng::new(seed.wrapping_mul(0x1_0000_0005).wrapping_add(i))));
+    pairs.extend(random);
+    pairs
+}
+
+fn wide(r: &mut Rng) -> u128 {
+    (r.next() as u128) << 64 | r.next() as u128
+}
+
+fn low_bits(n: u32) -> u128 {
+    u128::MAX.checked_shr(128 - n).unwrap_or(0)
+}
+
+/// Bounds that are equal above some bit, many of them with high zeros, at full length or without some of these; one in ten lent carelessly.
+fn random(r: &mut Rng) -> (u32, Bound, Bound) {
+    let width = match r.below(6) {
+        0 => 128,
+        1 => *r.pick(&[0, 1, 63, 64, 65, 127]),
+        _ => 1 + r.below(128) as u32,
+    };
+    let mut up_to = |top: u32| r.below(top as u64 + 1) as u32;
+    let (short, below) = (up_to(width), up_to(width));
+    let first = wide(r) & low_bits(if r.bool() { width } else { short });
+    let second = first & !low_bits(below) | wide(r) & low_bits(if r.bool() { below } else { below.min(short) });
+    let mut bounds = [first, second].map(|value| {
+        let least = 128 - value.leading_zeros();
+        Bound::of(value, if r.bool() { least + r.below((width - least) as u64 + 1) as u32 } else { width })
+    });
+    let mut width = width;
+    if r.pct(10) {
+        let careless = &mut bounds[r.below(2) as usize];
+        match r.below(6) {
+            0 => drop(careless.bytes.pop()),
+            1 => careless.bits = *r.pick(&[193, 200, 255, 1000, u32::MAX]),
+            2 => careless.bytes.push(r.next() as u8),
+            3 => careless.bytes.iter_mut().rev().take(1).for_each(|last| *last |= 0x80),
+            4 => width = *r.pick(&[0, 3, 129, 192, 1000, u32::MAX]),
+            _ => *careless = Bound { bits: 129 + r.below(64) as u32, bytes: vec![r.next() as u8; 24] },
+        }
+    }
+    let [a, b] = bounds;
+    (width, a, b)
+}
