@@ -26,6 +26,6 @@ for part in "$lines"/part.*; do
     count=$(wc -l < "$part")
     grep -qx "$count of $count cases agree" "$lines/report" || { echo "DIFFERENCE in $part"; cat "$lines/report"; differences=1; }
 done
-echo "$(wc -l < "$lines/all.txt") comparisons through the function, in $(ls "$lines"/part.* | wc -l) runs of replay"
+echo "$(wc -l < "$lines/all.txt") comparisons, in $(ls "$lines"/part.* | wc -l) runs of replay"
 [ $differences = 0 ] && echo "NO DIFFERENCE" || echo "DIFFERENCES"
 exit $differences

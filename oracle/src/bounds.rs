@@ -9,6 +9,7 @@ const BELOW: u32 = 1;
 const ABOVE: u32 = 2;
 
 /// A bound as it is lent: its length in bits, and bytes, of which some may lack or stand over.
+#[derive(Clone)]
 pub struct Bound {
     pub bits: u32,
     pub bytes: Vec<u8>,
@@ -62,7 +63,7 @@ pub fn pairs(seed: u64, count: u64) -> Vec<(u32, Bound, Bound)> {
     let mut pairs = Vec::new();
     for width in 0..=5 {
         for a in all(width) {
-            pairs.extend(all(width).into_iter().map(|b| (width, Bound { bits: a.bits, bytes: a.bytes.clone() }, b)));
+            pairs.extend(all(width).into_iter().map(|b| (width, a.clone(), b)));
         }
     }
     let random = (0..count).map(|i| random(&mut Rng::new(seed.wrapping_mul(0x1_0000_0005).wrapping_add(i))));
@@ -80,7 +81,7 @@ fn low_bits(n: u32) -> u128 {
 
 /// Bounds that are equal above some bit, many of them with high zeros, at full length or without some of these; one in ten lent carelessly.
 fn random(r: &mut Rng) -> (u32, Bound, Bound) {
-    let width = match r.below(6) {
+    let mut width = match r.below(6) {
         0 => 128,
         1 => *r.pick(&[0, 1, 63, 64, 65, 127]),
         _ => 1 + r.below(128) as u32,
@@ -93,18 +94,22 @@ fn random(r: &mut Rng) -> (u32, Bound, Bound) {
         let least = 128 - value.leading_zeros();
         Bound::of(value, if r.bool() { least + r.below((width - least) as u64 + 1) as u32 } else { width })
     });
-    let mut width = width;
     if r.pct(10) {
-        let careless = &mut bounds[r.below(2) as usize];
-        match r.below(6) {
-            0 => drop(careless.bytes.pop()),
-            1 => careless.bits = *r.pick(&[193, 200, 255, 1000, u32::MAX]),
-            2 => careless.bytes.push(r.next() as u8),
-            3 => careless.bytes.iter_mut().rev().take(1).for_each(|last| *last |= 0x80),
-            4 => width = *r.pick(&[0, 3, 129, 192, 1000, u32::MAX]),
-            _ => *careless = Bound { bits: 129 + r.below(64) as u32, bytes: vec![r.next() as u8; 24] },
-        }
+        let which = r.below(2) as usize;
+        spoil(r, &mut bounds[which], &mut width);
     }
     let [a, b] = bounds;
     (width, a, b)
+}
+
+/// A byte lacking, a byte or a bit too many, or a length or a width out of range.
+fn spoil(r: &mut Rng, bound: &mut Bound, width: &mut u32) {
+    match r.below(6) {
+        0 => drop(bound.bytes.pop()),
+        1 => bound.bytes.push(r.next() as u8),
+        2 => bound.bytes.last_mut().into_iter().for_each(|last| *last |= 0x80),
+        3 => bound.bits = *r.pick(&[193, 200, 255, 1000, u32::MAX]),
+        4 => *bound = Bound { bits: 129 + r.below(64) as u32, bytes: vec![r.next() as u8; 24] },
+        _ => *width = *r.pick(&[0, 3, 129, 192, 1000, u32::MAX]),
+    }
 }

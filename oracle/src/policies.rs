@@ -216,11 +216,13 @@ pub fn small_and_lists() -> Vec<(String, Vec<u8>)> {
     .into()
 }
 
-/// A range pattern on `width` fields whose bounds differ in the bit `differs` alone, or in none.
+/// A range pattern on `width` fields whose bounds differ in the bit `differs` alone, or in none; beside a test that makes the term longer than
+/// those of 32 bytes, for which Check clears less memory.
 fn bounds(width: usize, differs: Option<usize>) -> Node {
     let low: Vec<bool> = (0..width).map(|i| i % 2 == 1 && Some(i) != differs).collect();
     let high = low.iter().enumerate().map(|(i, &bit)| bit || Some(i) == differs).collect();
-    Node { kind: RANGEMATCH, end: width as u32, pat: 3, a: low, b: high, ..Node::default() }
+    let pattern = Node { kind: RANGEMATCH, end: width as u32, pat: 3, a: low, b: high, ..Node::default() };
+    two(UNION, pattern, Node { kind: RANGETEST, end: 192, a: vec![true; 192], ..Node::default() })
 }
 
 /// The same policies from about 1,000 to about 60,000 drawn nodes, or to the deepest term that is allowed; one large core below more and
