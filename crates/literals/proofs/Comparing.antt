@@ -96,7 +96,7 @@ module _ (w : ℕ) (a b : Bits) where
     next : w - n ≡ suc (w - (n + 1))
     next = omega arith
 
-    looked-first : lookedAt w a b ≡ n + 1
+    pub looked-first : lookedAt w a b ≡ n + 1
     looked-first =
         let stops : equalAbove (w - n) a b ≡ 0 = rw next (rw (e, f) (apart x)) in
         let count : equalAbove w a b ≡ n = omega (arith, count-top a b w n (omega arith) s) in
@@ -206,19 +206,13 @@ module _ (a b : Bits) where
   compares zero = same (λ i h k. absurd (omega arith))
   compares (suc w) = one-more w (compares w)
 
--- ## The count
-
-module _ (w : ℕ) (a b : Bits) where
-  pub looked-within : lookedAt w a b ≤ w
-  looked-within = go (compares a b w)
-    where
-      go : Compares w a b → lookedAt w a b ≤ w
-      go (same s) = omega (arith, looked-none w a b s)
-      go (first n h s d) = omega (arith, looked-first w a b n h s refl d)
-
-  pub looked-to-first : (n : ℕ) → n < w → SameTop w n a b
-      → (getD a (w - (n + 1)) false ≡ getD b (w - (n + 1)) false → ⊥) → lookedAt w a b ≡ n + 1
-  looked-to-first n h s d = looked-first w a b n h s refl (ne-not (getD a (w - (n + 1)) false) (getD b (w - (n + 1)) false) d)
+-- no more bits than there are
+pub looked-within : (w : ℕ) (a b : Bits) → lookedAt w a b ≤ w
+looked-within w a b = go (compares a b w)
+  where
+    go : Compares w a b → lookedAt w a b ≤ w
+    go (same s) = omega (arith, looked-none w a b s)
+    go (first n h s d) = omega (arith, looked-first w a b n h s refl d)
 
 -- ## Nothing fewer decides
 

@@ -3,7 +3,7 @@
 -- the host's struct, HostAnswer, is declared in src/lib.rt.
 use mathlib.Core.Path.{_≡_, refl, subst}
 use mathlib.Core.Logic.{_↔_}
-use mathlib.Core.Bool.{Bool, true, false}
+use mathlib.Core.Bool.{Bool, true, false, not}
 use mathlib.Core.List.{List, [], _∷_, map, List·Memᴰ}
 use Prim.Native.Nat.{ℕ, _+_, _-_, _^_, _≤_, _<_}
 use native.Mathlib.Nat.{zero-add}
@@ -13,7 +13,7 @@ use Rattle.literals.specs.Comparing.{SameTop, StopsWhenDecided, lookedAt}
 use Rattle.literals.specs.Patterns.{IpRange}
 use Rattle.literals.specs.Reading.{fault, literal}
 use Rattle.literals.proofs.Codec.{literal-limit}
-use Rattle.literals.proofs.Comparing.{looked-none, looked-to-first, stops-when-decided}
+use Rattle.literals.proofs.Comparing.{looked-first, looked-none, stops-when-decided}
 use Rattle.expr.specs.Answers.{ok, refuse}
 use Rattle.expr.specs.Form.{Within, decode, encode}
 use Rattle.expr.specs.Operations.{fieldsBytes, substituteBytes}
@@ -182,9 +182,9 @@ other-refusals-theorem = (refl, refl, refl, refl, refl, refl, refl)
 -- "how many of the field's bits it looked at: one more than the equal bits above that one, or the field's width if none differs": of two bounds
 -- with n equal bits on top of a bit that differs, and of two that differ in none
 pub looked-at-theorem : (w : ℕ) (a b : Bits)
-    → ((n : ℕ) → n < w → SameTop w n a b → (getD a (w - (n + 1)) false ≡ getD b (w - (n + 1)) false → ⊥) → lookedAt w a b ≡ n + 1)
+    → ((n : ℕ) → n < w → SameTop w n a b → getD b (w - (n + 1)) false ≡ not (getD a (w - (n + 1)) false) → lookedAt w a b ≡ n + 1)
     × (SameTop w w a b → lookedAt w a b ≡ w)
-looked-at-theorem w a b = (looked-to-first w a b, looked-none w a b)
+looked-at-theorem w a b = ((λ n h s d. looked-first w a b n h s refl d), looked-none w a b)
 
 -- "stop when it's decided": as many top bits as are looked at decide the order of two bounds, whatever stands below, and no fewer do
 pub stops-when-decided-theorem : (w : ℕ) (a b : Bits) → length a ≤ w → length b ≤ w → StopsWhenDecided w a b
