@@ -7,7 +7,8 @@
  * the bytes that a call reads.
  *
  * What the caller owes: the elements are there, as many as the length says, and aligned; `work` and `out` overlap neither each other nor
- * another slice of the same call. `term` and `replacement` may overlap. A pointer may be NULL if its length is 0 (tested).
+ * another slice of the same call. `term` and `replacement` may overlap, and so may `a` and `b`. A pointer may be NULL if its length is 0
+ * (tested).
  *
  * A term is walked with recursion, at most 256 levels deep: "Stack" below says how many bytes that takes. The archive is for x86-64, needs
  * memset of the C library alone, and is linked by
@@ -27,7 +28,7 @@ extern "C" {
 
 /* The version of this header. The pkg-config file takes it from here, and a test compares netkat_version with it. */
 #define NETKAT_VERSION_MAJOR 0
-#define NETKAT_VERSION_MINOR 2
+#define NETKAT_VERSION_MINOR 3
 #define NETKAT_VERSION_PATCH 0
 #define NETKAT_VERSION (NETKAT_VERSION_MAJOR * 65536 + NETKAT_VERSION_MINOR * 256 + NETKAT_VERSION_PATCH)
 
@@ -35,7 +36,7 @@ extern "C" {
 uint32_t netkat_version(void);
 
 /* Limits of a term: beyond the first three it is refused by 6, 7 and 5; a greater prefix cannot be written, and one above 192 breaks rule
- * 17 or 18. */
+ * 17 or 18. The third holds of netkat_cost as well, the fourth does not. */
 #define NETKAT_MAX_RECORDS 4096
 #define NETKAT_MAX_LEVELS 256
 #define NETKAT_MAX_LITERAL_BITS 192
@@ -43,6 +44,10 @@ uint32_t netkat_version(void);
 
 /* The most fields that an IpRange can be matched against; with more it is refused by 20. */
 #define NETKAT_MAX_RANGE_PATTERN_FIELDS 128
+
+/* No match with an IpRange has a core of more nodes. On 128 fields the values from 2^127 to the highest one without bit 126 need just so
+ * many. */
+#define NETKAT_MAX_RANGE_PATTERN_COST 33529
 
 /* The longest record, a match on a direct range with two literals of 192 bits, and the longest term: 1,365 Ifs over 2,731 such matches.
  * A buffer of NETKAT_TERM_MAX bytes holds every term, so also every result of netkat_substitute. */
@@ -59,18 +64,19 @@ uint32_t netkat_version(void);
  * its stack, for which PTHREAD_STACK_MIN was enough (glibc), thread-local variables, the frames above the call and those of signal
  * handlers. Measured, not proved: tests/stack.c looks for the worst terms of 256 levels on x86-64, and then runs each function on just so
  * much. `make stack` prints these lines anew: what was measured and 512 more, rounded up to 4,096. */
-#define NETKAT_STACK_CHECK 167936            /* 163904 measured */
-#define NETKAT_STACK_DESUGAR 221184          /* 217184 measured */
+#define NETKAT_STACK_CHECK 163840            /* 159808 measured */
+#define NETKAT_STACK_DESUGAR 233472          /* 229472 measured */
 #define NETKAT_STACK_SUBSTITUTE 102400       /* 98720 measured */
 #define NETKAT_STACK_IS_TEST_FRAGMENT 57344  /* 53472 measured */
 #define NETKAT_STACK_NUM_FIELDS 57344        /* 53472 measured */
 #define NETKAT_STACK_COMPUTE_SUBRANGE 4096   /* 48 measured */
+#define NETKAT_STACK_COST 4096               /* 232 measured */
 
 /* The numbers of refusals. 41 to 54 are kept for functions to come. */
 enum netkat_refusal {
     NETKAT_OK = 0,
-    /* the term's form */
-    NETKAT_REFUSAL_ENDS_EARLY = 1,       /* the bytes end before the term is complete */
+    /* the term's form; 1 and 5 also that of a pattern that is lent to netkat_cost */
+    NETKAT_REFUSAL_ENDS_EARLY = 1,       /* the bytes end before the term, or a lent literal, is complete */
     NETKAT_REFUSAL_UNKNOWN_KIND = 2,     /* a kind above 26 */
     NETKAT_REFUSAL_FOREIGN_FIELD = 3,    /* a map bit of a field that the kind, or the pattern, does not have */
     NETKAT_REFUSAL_ZERO_WRITTEN = 4,     /* a field that is zero or empty is written, or a spare bit of a literal is 1 */
@@ -167,6 +173,7 @@ enum netkat_map {
  *   25                the Assign or Test
  *   31 to 38          as 1 to 8, counted in the replacement
  *   9, 10, 26 to 28   0
+ * Of netkat_cost, which is lent no term, it is 0 whatever the number.
  * Where refusals of several groups apply, that of the group which a function names first is answered. Rules and draws are judged in walking
  * order: a record's children from left to right, then the record itself. */
 typedef struct netkat_answer {
@@ -210,6 +217,19 @@ netkat_answer netkat_num_fields(const uint8_t *term, size_t term_len);
  * first and second: alias_start + sub_start and alias_start + sub_end. 28 if sub_end is below sub_start, or if that last sum, which may be
  * beyond 32 bits, is above alias_end. */
 netkat_answer netkat_compute_subrange(uint32_t alias_start, uint32_t alias_end, uint32_t sub_start, uint32_t sub_end);
+
+/* What a match of the pattern on the fields from start up to end, the end not among them, draws on the allowance of netkat_desugar: the
+ * number of nodes of its core, without making them. It is at least 1, and may be beyond 32 bits: first is its low half, second its high
+ * half, and NETKAT_COST puts them together. FORMAT.md has the figures of each pattern.
+ * number is the prefix of a Cidr, any number of 32 bits; the other patterns do not look at it. A literal is lent without the length byte
+ * that it has in a term: its bits lie in a, bit 0 the lowest of the first byte, and there are a_bits of them. Spare bits of the last byte
+ * and further bytes are not looked at. So with literal B, which Wildcard and IpRange have; for Exact and Cidr b, b_len and b_bits are not
+ * looked at.
+ * 5 if the pattern is above 3; 5 if A has more than 192 bits, 1 if a has fewer bytes than they need; the same of B; then as the match is
+ * refused: 14; 15 (Exact), 17 before 18 (Cidr), 19 (Wildcard), 20 before 21 (IpRange). */
+netkat_answer netkat_cost(uint32_t start, uint32_t end, uint32_t pattern, uint32_t number, const uint8_t *a, size_t a_len, uint32_t a_bits,
+                          const uint8_t *b, size_t b_len, uint32_t b_bits);
+#define NETKAT_COST(answer) ((uint64_t)(answer).second << 32 | (answer).first)
 
 #ifdef __cplusplus
 }

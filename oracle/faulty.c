@@ -39,6 +39,31 @@ netkat_answer netkat_compute_subrange(uint32_t alias_start, uint32_t alias_end, 
     return a;
 }
 
+#elif defined(COST_ONE_MORE) || defined(COST_NOT_JOINED) || defined(COST_HIGH_HALF_LOST) || defined(COST_PREFIX_AS_A_BYTE) || \
+    defined(COST_BYTE_BEHIND) || defined(COST_17_AS_18)
+netkat_answer true_cost(uint32_t start, uint32_t end, uint32_t pattern, uint32_t number, const uint8_t *a, size_t a_len, uint32_t a_bits,
+                        const uint8_t *b, size_t b_len, uint32_t b_bits);
+netkat_answer netkat_cost(uint32_t start, uint32_t end, uint32_t pattern, uint32_t number, const uint8_t *a, size_t a_len, uint32_t a_bits,
+                          const uint8_t *b, size_t b_len, uint32_t b_bits) {
+#ifdef COST_PREFIX_AS_A_BYTE
+    number &= 255;
+#endif
+    netkat_answer answer = true_cost(start, end, pattern, number, a, a_len, a_bits, b, b_len, b_bits);
+#if defined(COST_ONE_MORE)
+    if (answer.number == 0 && answer.first > 500) answer.first++;
+#elif defined(COST_NOT_JOINED)
+    /* one bound alone costs at most so much */
+    if (answer.number == 0 && pattern == 3 && answer.first > (end - start) * (end - start + 3) - 1) answer.first--;
+#elif defined(COST_HIGH_HALF_LOST)
+    answer.second = 0;
+#elif defined(COST_BYTE_BEHIND)
+    if (answer.number == 0 && pattern == 3 && a[a_len] != 0) answer.first++; /* the comparison has memory behind what it lends */
+#elif defined(COST_17_AS_18)
+    if (answer.number == 17 && a_bits != end - start) answer.number = 18;
+#endif
+    return answer;
+}
+
 #else
 netkat_answer true_desugar(const uint8_t *term, size_t term_len, uint32_t allowance, uint32_t *work, size_t work_len, uint8_t *out,
                            size_t out_len);

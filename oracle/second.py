@@ -427,7 +427,7 @@ def subrange(a, b, s, e):
 
 
 def lent(bits, data):
-    """The value of a lent bound; spare bits and further bytes do not count."""
+    """The value of a lent literal; spare bits and further bytes do not count."""
     if bits > MAX_LITERAL:
         no(5, 0)
     if 8 * len(data) < bits:
@@ -442,6 +442,24 @@ def compare(width, a_bits, a, b_bits, b):
         no(20, 0)
     equal_above = width - (a ^ b).bit_length()
     return f"ok {1 if a < b else 2 if a > b else 0} {min(width, equal_above + 1)}"
+
+
+MAX_MADE = 100000  # nodes of a core that is made to be counted
+
+
+def cost(start, end, pattern, number, a_bits, a, b_bits, b):
+    """Document 02, change 5: the records of the match's core, made and counted; only a longer chain is not made."""
+    if pattern > 3:
+        no(5, 0)
+    r = Rec()
+    r.kind, r.pat, r.num = 25, pattern, number
+    r.a = (a_bits, lent(a_bits, a))
+    r.b = (b_bits, lent(b_bits, b)) if pattern >= 2 else (0, 0)
+    got = leaf_rule(r, start, end)
+    if isinstance(got, int):
+        no(got, 0)
+    draw, make = got
+    return f"ok {draw if draw > MAX_MADE else len(make())}"
 
 
 def program(t):
@@ -475,6 +493,8 @@ def answer(q):
             return subrange(*map(int, w[1:]))
         if w[0] == "compare":
             return compare(int(w[1]), int(w[2]), unhex(w[3]), int(w[4]), unhex(w[5]))
+        if w[0] == "cost":
+            return cost(*map(int, w[1:6]), unhex(w[6]), int(w[7]), unhex(w[8]))
         return program(unhex(w[0]))
     except No as e:
         return f"no {e.args[0]} {e.args[1]}"

@@ -1,6 +1,6 @@
 #!/bin/sh
-# Does the comparison see a fault? Puts one fault at a time into a copy of the original, then of the port, then of the model, and wants a
-# difference reported.
+# Does the comparison see a fault? Puts one fault at a time into a copy of the original, then of the port, then of the model, at last of the
+# port's costs, and wants a difference reported.
 # Needs ORACLE_SEEDS (see run.sh), target/staticlib/libnetkat.a, cc, ar and objcopy. ONLY=NAME tries one fault.
 if [ ! -d "${ORACLE_SEEDS:-}" ]; then
     echo "selftest.sh: set ORACLE_SEEDS to the folder that holds the original's expr.rs and desugar.rs" >&2
@@ -30,11 +30,13 @@ open(path, "w").write(text.replace(old, new, 1))
 END
 }
 
-# fault NAME PATTERN [FOLDER]: builds, compares, and wants a line DIFFERENCE with the pattern, or the end of the process by a fault
+# fault NAME PATTERN [FOLDER]: builds, compares what $asked says, and wants a line DIFFERENCE with the pattern, or the end of the process
+# by a fault
+asked="compare 5 ${COUNT:-30000} 40 1"
 fault() {
     cargo build --manifest-path "${3:-.}/Cargo.toml" --release --offline --quiet --target-dir "$top" 2> "$report" ||
         { miss "$1: no build"; return; }
-    if "$top/release/oracle" compare 5 "${COUNT:-30000}" 40 1 > "$report" 2>&1; then
+    if "$top/release/oracle" $asked > "$report" 2>&1; then
         miss "$1"
     elif grep -q "DIFFERENCE $2" "$report"; then
         seen=$((seen + 1))
@@ -169,6 +171,14 @@ model "literals of 128 bits at most" PORT \
 model "range patterns on 192 bits" PORT \
     'if width > MAX_RANGE_BITS ||' \
     'if width > 192 ||'
+
+asked="costs 5 ${COUNT:-30000}"
+port COST_ONE_MORE cost
+port COST_NOT_JOINED cost
+port COST_HIGH_HALF_LOST cost
+port COST_PREFIX_AS_A_BYTE cost
+port COST_BYTE_BEHIND cost
+port COST_17_AS_18 cost
 
 echo "$seen seen, $missed missed"
 [ $missed = 0 ]

@@ -41,6 +41,12 @@ static void nulls(void) {
     expect("substitute, NULL out", netkat_substitute(var, 2, 0, zero, 1, NULL, 0), NETKAT_REFUSAL_BUFFER_TOO_SHORT, 0, 0, 0);
     expect("substitute, NULL out, no variable", netkat_substitute(zero, 1, 0, zero, 1, NULL, 0), NETKAT_REFUSAL_BUFFER_TOO_SHORT, 0, 0, 0);
     expect("substitute, NULL alone", netkat_substitute(NULL, 0, 0, NULL, 0, NULL, 0), NETKAT_REFUSAL_ENDS_EARLY, 0, 0, 0);
+
+    expect("cost, NULL a", netkat_cost(0, 1, NETKAT_PATTERN_IP_RANGE, 0, NULL, 0, 0, zero, 1, 1), 0, 0, 1, 0);
+    expect("cost, NULL b", netkat_cost(0, 1, NETKAT_PATTERN_IP_RANGE, 0, zero, 1, 1, NULL, 0, 0), 0, 0, 1, 0);
+    expect("cost, NULL alone", netkat_cost(0, 4, NETKAT_PATTERN_IP_RANGE, 0, NULL, 0, 0, NULL, 0, 0), 0, 0, 7, 0);
+    expect("cost, NULL a, bit", netkat_cost(0, 1, NETKAT_PATTERN_EXACT, 0, NULL, 0, 1, zero, 1, 1), NETKAT_REFUSAL_ENDS_EARLY, 0, 0, 0);
+    expect("cost, NULL b, bit", netkat_cost(0, 1, NETKAT_PATTERN_WILDCARD, 0, zero, 1, 1, NULL, 0, 1), NETKAT_REFUSAL_ENDS_EARLY, 0, 0, 0);
 }
 
 /* `levels` levels of Ifs above matches of NETKAT_RECORD_MAX bytes, to at; the end. */
@@ -92,6 +98,135 @@ static void literal_limits(void) {
     expect("widest range pattern", check_match(range, NETKAT_PATTERN_IP_RANGE, range, 1), 0, 0, 1, 0);
     expect("wider range pattern", check_match(range + 1, NETKAT_PATTERN_IP_RANGE, range, 1), NETKAT_REFUSAL_IP_RANGE_WIDTH, 0, 0, 0);
     expect("bounds longer than the range", check_match(range, NETKAT_PATTERN_IP_RANGE, range + 1, 1), NETKAT_REFUSAL_IP_RANGE_WIDTH, 0, 0, 0);
+}
+
+/* A literal that is lent to Cost: its bytes, how many they are, and its length in bits. */
+struct lent {
+    const char *bytes;
+    size_t len;
+    uint32_t bits;
+};
+
+#define LENT(bytes, bits)                                                                                                                  \
+    { bytes, sizeof bytes - 1, bits }
+#define NONE LENT("", 0)
+#define ZEROS "\0\0\0\0\0\0\0\0\0\0\0\0\0\0\0"
+#define ONES "\xff\xff\xff\xff\xff\xff\xff\xff\xff\xff\xff\xff\xff\xff\xff"
+
+/* Calls of Cost, with the cost, or 0 and the refusal. */
+static const struct {
+    const char *what;
+    uint32_t start, end, pattern, number;
+    struct lent a, b;
+    uint64_t cost;
+    uint32_t refusal;
+} costs[] = {
+    {"Exact", 0, 4, NETKAT_PATTERN_EXACT, 0, LENT("\x05", 3), NONE, 7, 0},
+    {"Exact, no field", 3, 3, NETKAT_PATTERN_EXACT, 0, NONE, NONE, 1, 0},
+    {"Exact, every field", 0, UINT32_MAX, NETKAT_PATTERN_EXACT, 0, LENT("\x05", 3), NONE, 8589934589u, 0},
+    {"Exact, as many as 32 bits count", 0, 0x80000000, NETKAT_PATTERN_EXACT, 0, NONE, NONE, UINT32_MAX, 0},
+    {"Exact, one more", 0, 0x80000001, NETKAT_PATTERN_EXACT, 0, NONE, NONE, 0x100000001u, 0},
+    {"Cidr", 0, 8, NETKAT_PATTERN_CIDR, 3, LENT("\xa0", 8), NONE, 5, 0},
+    {"Cidr, prefix 0", 0, 8, NETKAT_PATTERN_CIDR, 0, LENT("\xa0", 8), NONE, 1, 0},
+    {"Wildcard", 4, 8, NETKAT_PATTERN_WILDCARD, 0, LENT("\x05", 4), LENT("\x0a", 4), 3, 0},
+    {"Wildcard, any value", 4, 8, NETKAT_PATTERN_WILDCARD, 0, LENT("\x05", 4), LENT("\x0f", 4), 1, 0},
+    {"IpRange", 0, 2, NETKAT_PATTERN_IP_RANGE, 0, LENT("\x01", 2), LENT("\x02", 2), 11, 0},
+    {"IpRange, equal bounds", 0, 2, NETKAT_PATTERN_IP_RANGE, 0, LENT("\x02", 2), LENT("\x02", 2), 3, 0},
+    {"IpRange, equal bounds of other lengths", 0, 4, NETKAT_PATTERN_IP_RANGE, 0, LENT("\x02", 2), LENT("\x02", 4), 7, 0},
+    {"IpRange, all values", 0, 2, NETKAT_PATTERN_IP_RANGE, 0, NONE, LENT("\x03", 2), 1, 0},
+    {"IpRange, an upper bound", 0, 3, NETKAT_PATTERN_IP_RANGE, 0, NONE, LENT("\x05", 3), 5 + 2 + 6, 0},
+    {"IpRange, a lower bound", 0, 3, NETKAT_PATTERN_IP_RANGE, 0, LENT("\x01", 1), LENT("\x07", 3), 5 + 2 + 4, 0},
+    {"the most", 0, 128, NETKAT_PATTERN_IP_RANGE, 0, LENT(ZEROS "\x80", 128), LENT(ONES "\xbf", 128), NETKAT_MAX_RANGE_PATTERN_COST, 0},
+    {"longest Exact", 0, 192, NETKAT_PATTERN_EXACT, 0, LENT(ONES ONES, 192), NONE, 383, 0},
+    {"longest Cidr", 7, 199, NETKAT_PATTERN_CIDR, 192, LENT(ONES ONES, 192), NONE, 383, 0},
+    {"longest Wildcard", 7, 199, NETKAT_PATTERN_WILDCARD, 0, LENT(ONES ONES, 192), LENT(ZEROS ZEROS, 192), 383, 0},
+
+    {"the number of an Exact", 0, 4, NETKAT_PATTERN_EXACT, UINT32_MAX, LENT("\x05", 3), NONE, 7, 0},
+    {"the number of a Wildcard", 0, 4, NETKAT_PATTERN_WILDCARD, UINT32_MAX, LENT("\x05", 4), LENT("\x0a", 4), 3, 0},
+    {"the number of an IpRange", 0, 2, NETKAT_PATTERN_IP_RANGE, UINT32_MAX, LENT("\x01", 2), LENT("\x02", 2), 11, 0},
+    {"literal B of an Exact, too long", 0, 4, NETKAT_PATTERN_EXACT, 0, LENT("\x05", 3), LENT("", 193), 7, 0},
+    {"literal B of a Cidr, bytes lacking", 0, 8, NETKAT_PATTERN_CIDR, 3, LENT("\xa0", 8), LENT("", UINT32_MAX), 5, 0},
+    {"spare bits and further bytes", 0, 2, NETKAT_PATTERN_IP_RANGE, 0, LENT("\xfd\xff", 2), LENT("\xfe" ONES ONES, 2), 11, 0},
+    {"spare bits of a mask", 0, 4, NETKAT_PATTERN_WILDCARD, 0, LENT("\xff", 4), LENT("\xfa", 4), 3, 0},
+
+    {"pattern 4", 0, 4, 4, 0, NONE, NONE, 0, NETKAT_REFUSAL_OUT_OF_RANGE},
+    {"greatest pattern, before all else", 4, 3, UINT32_MAX, 9, LENT("", 8), LENT("", 8), 0, NETKAT_REFUSAL_OUT_OF_RANGE},
+    {"A of 193 bits", 0, 200, NETKAT_PATTERN_EXACT, 0, LENT(ZEROS ZEROS, 193), NONE, 0, NETKAT_REFUSAL_OUT_OF_RANGE},
+    {"A too long, before bytes lacking", 4, 3, NETKAT_PATTERN_CIDR, 0, LENT("", UINT32_MAX), NONE, 0, NETKAT_REFUSAL_OUT_OF_RANGE},
+    {"A too long, before B", 4, 3, NETKAT_PATTERN_WILDCARD, 0, LENT("", 193), LENT("", 1), 0, NETKAT_REFUSAL_OUT_OF_RANGE},
+    {"A lacks a byte", 0, 9, NETKAT_PATTERN_EXACT, 0, LENT("\x01", 9), NONE, 0, NETKAT_REFUSAL_ENDS_EARLY},
+    {"A lacks a byte of 192 bits", 0, 192, NETKAT_PATTERN_CIDR, 0, LENT(ZEROS "\0\0\0\0\0\0\0\0", 192), NONE, 0, NETKAT_REFUSAL_ENDS_EARLY},
+    {"A lacks bytes, before B", 4, 3, NETKAT_PATTERN_IP_RANGE, 0, LENT("", 8), LENT("", 193), 0, NETKAT_REFUSAL_ENDS_EARLY},
+    {"B of 193 bits", 0, 192, NETKAT_PATTERN_WILDCARD, 0, LENT(ZEROS ZEROS, 192), LENT(ZEROS ZEROS, 193), 0, NETKAT_REFUSAL_OUT_OF_RANGE},
+    {"B too long, before bytes lacking", 4, 3, NETKAT_PATTERN_IP_RANGE, 0, NONE, LENT("", 193), 0, NETKAT_REFUSAL_OUT_OF_RANGE},
+    {"B lacks bytes, before the range", 4, 3, NETKAT_PATTERN_WILDCARD, 0, NONE, LENT("", 192), 0, NETKAT_REFUSAL_ENDS_EARLY},
+    {"end below start, Exact", 4, 3, NETKAT_PATTERN_EXACT, 0, LENT("\x05", 5), NONE, 0, NETKAT_REFUSAL_RANGE_END_BELOW_START},
+    {"end below start, Cidr", 4, 3, NETKAT_PATTERN_CIDR, 9, LENT("\x05", 5), NONE, 0, NETKAT_REFUSAL_RANGE_END_BELOW_START},
+    {"end below start, Wildcard", 4, 3, NETKAT_PATTERN_WILDCARD, 0, LENT("\x05", 5), NONE, 0, NETKAT_REFUSAL_RANGE_END_BELOW_START},
+    {"end below start, IpRange", UINT32_MAX, 0, NETKAT_PATTERN_IP_RANGE, 0, LENT("\x05", 5), NONE, 0, NETKAT_REFUSAL_RANGE_END_BELOW_START},
+    {"Exact longer than the range", 0, 4, NETKAT_PATTERN_EXACT, 0, LENT("\x05", 5), NONE, 0, NETKAT_REFUSAL_LITERAL_TOO_LONG},
+    {"prefix above the width", 0, 8, NETKAT_PATTERN_CIDR, 9, LENT("\x05", 8), NONE, 0, NETKAT_REFUSAL_CIDR_PREFIX},
+    {"prefix above the width, address too", 0, 8, NETKAT_PATTERN_CIDR, UINT32_MAX, LENT("\x05", 7), NONE, 0, NETKAT_REFUSAL_CIDR_PREFIX},
+    {"prefix beyond a byte", 0, 256, NETKAT_PATTERN_CIDR, 257, LENT("\x05", 8), NONE, 0, NETKAT_REFUSAL_CIDR_PREFIX},
+    {"prefix beyond a byte within the width", 0, 256, NETKAT_PATTERN_CIDR, 256, LENT("\x05", 8), NONE, 0, NETKAT_REFUSAL_CIDR_ADDRESS},
+    {"address shorter than the range", 0, 8, NETKAT_PATTERN_CIDR, 0, LENT("\x05", 7), NONE, 0, NETKAT_REFUSAL_CIDR_ADDRESS},
+    {"address longer than the range", 0, 7, NETKAT_PATTERN_CIDR, 7, LENT("\x05", 8), NONE, 0, NETKAT_REFUSAL_CIDR_ADDRESS},
+    {"Wildcard, address", 0, 4, NETKAT_PATTERN_WILDCARD, 0, LENT("\x05", 3), LENT("\x05", 4), 0, NETKAT_REFUSAL_WILDCARD_WIDTH},
+    {"Wildcard, mask", 0, 4, NETKAT_PATTERN_WILDCARD, 0, LENT("\x05", 4), LENT("\x05", 5), 0, NETKAT_REFUSAL_WILDCARD_WIDTH},
+    {"IpRange on 129 fields", 0, 129, NETKAT_PATTERN_IP_RANGE, 0, LENT("\x01", 1), NONE, 0, NETKAT_REFUSAL_IP_RANGE_WIDTH},
+    {"A too long, before the order", 0, 4, NETKAT_PATTERN_IP_RANGE, 0, LENT("\x09", 5), LENT("\x01", 4), 0, NETKAT_REFUSAL_IP_RANGE_WIDTH},
+    {"B longer than the range", 0, 4, NETKAT_PATTERN_IP_RANGE, 0, LENT("\x01", 4), LENT("\x09", 5), 0, NETKAT_REFUSAL_IP_RANGE_WIDTH},
+    {"bounds out of order", 0, 4, NETKAT_PATTERN_IP_RANGE, 0, LENT("\x09", 4), LENT("\x08", 4), 0, NETKAT_REFUSAL_IP_RANGE_ORDER},
+    {"bounds out of order, B short", 0, 4, NETKAT_PATTERN_IP_RANGE, 0, LENT("\x04", 4), LENT("\x03", 2), 0, NETKAT_REFUSAL_IP_RANGE_ORDER},
+};
+
+static netkat_answer cost_of(uint32_t start, uint32_t end, uint32_t pattern, uint32_t number, struct lent a, struct lent b) {
+    return netkat_cost(start, end, pattern, number, (const uint8_t *)a.bytes, a.len, a.bits, (const uint8_t *)b.bytes, b.len, b.bits);
+}
+
+/* A match on the fields from 0 up to width, with literals of at most 8 bits, as a term and as parts: Cost answers what Desugar draws, or
+ * refuses as Desugar does. */
+static void as_drawn(uint8_t width, uint8_t pattern, uint8_t number, uint8_t a, uint8_t a_bits, uint8_t b, uint8_t b_bits) {
+    uint8_t term[16] = {NETKAT_MAP_KIND, NETKAT_KIND_BIT_RANGE_MATCH}, *at = term + 2;
+    if (width) term[0] |= NETKAT_MAP_END, *at = width, at += 4;
+    if (pattern) term[0] |= NETKAT_MAP_PATTERN, *at++ = pattern;
+    if (number) term[0] |= NETKAT_MAP_NUMBER, *at++ = number;
+    if (a_bits) term[0] |= NETKAT_MAP_A, *at++ = a_bits, *at++ = a;
+    if (b_bits) term[0] |= NETKAT_MAP_B, *at++ = b_bits, *at++ = b;
+    const size_t n = NETKAT_WORK_LEN(NETKAT_MAX_ALLOWANCE), room = NETKAT_CORE_MAX(NETKAT_MAX_ALLOWANCE);
+    netkat_answer made = desugar(term, (size_t)(at - term), NETKAT_MAX_ALLOWANCE, n, room);
+    expect("cost and draw", netkat_cost(0, width, pattern, number, &a, 1, a_bits, &b, 1, b_bits), made.number, 0, made.second, 0);
+}
+
+/* Every pattern whose literals have at most so many bits, on as many fields and one more. */
+static void all_as_drawn(uint8_t most) {
+    for (uint8_t width = 0; width <= most + 1; width++)
+        for (uint8_t a_bits = 0; a_bits <= most; a_bits++)
+            for (uint8_t a = 0; a < 1 << a_bits; a++) {
+                as_drawn(width, NETKAT_PATTERN_EXACT, 0, a, a_bits, 0, 0);
+                for (uint8_t prefix = 0; prefix <= width + 1; prefix++) as_drawn(width, NETKAT_PATTERN_CIDR, prefix, a, a_bits, 0, 0);
+                for (uint8_t b_bits = 0; b_bits <= most; b_bits++)
+                    for (uint8_t b = 0; b < 1 << b_bits; b++) {
+                        as_drawn(width, NETKAT_PATTERN_WILDCARD, 0, a, a_bits, b, b_bits);
+                        as_drawn(width, NETKAT_PATTERN_IP_RANGE, 0, a, a_bits, b, b_bits);
+                    }
+            }
+}
+
+static void cost(void) {
+    for (size_t i = 0; i < sizeof costs / sizeof *costs; i++) {
+        netkat_answer a = cost_of(costs[i].start, costs[i].end, costs[i].pattern, costs[i].number, costs[i].a, costs[i].b);
+        expect(costs[i].what, a, costs[i].refusal, 0, (uint32_t)costs[i].cost, (uint32_t)(costs[i].cost >> 32));
+        if (NETKAT_COST(a) != costs[i].cost) printf("%s: another number of 64 bits\n", costs[i].what), failed = 1;
+    }
+    /* one literal for both */
+    expect("cost, overlap", netkat_cost(0, 4, NETKAT_PATTERN_IP_RANGE, 0, core_out, 1, 4, core_out, 1, 4), 0, 0, 7, 0);
+
+    const uint8_t most[] = "\xd9\x19\x80\0\0\0\x03\x80" ZEROS "\x80\x80" ONES "\xbf";
+    const size_t n = NETKAT_WORK_LEN(NETKAT_MAX_ALLOWANCE), room = NETKAT_CORE_MAX(NETKAT_MAX_ALLOWANCE);
+    netkat_answer made = desugar(most, sizeof most - 1, NETKAT_MAX_ALLOWANCE, n, room);
+    if (made.second != NETKAT_MAX_RANGE_PATTERN_COST) printf("the most: %u, drawn %u\n", made.number, made.second), failed = 1;
+    all_as_drawn(5);
 }
 
 /* The limits: a term of NETKAT_TERM_MAX bytes and 4,096 records, 256 levels, the greatest allowance with its work memory and room. */
@@ -184,6 +319,7 @@ int main(void) {
 
     nulls();
     limits();
+    cost();
     if (netkat_version() != NETKAT_VERSION) printf("version %u, expected %u\n", netkat_version(), (unsigned)NETKAT_VERSION), failed = 1;
 
     if (!failed) puts("netkat.h: all answers as expected");

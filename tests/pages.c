@@ -1,7 +1,7 @@
 /* Compares docs/REFUSALS.md and docs/FORMAT.md with the library, the header and the example, so that the pages cannot drift.
  *
  *   REFUSALS.md   every row of the table: the name has its number, the call is refused by it at that place, and the buffer is kept;
- *                 every number from 1 to 28 and 31 to 38 has one row
+ *                 every number from 1 to 28 and 31 to 38 has one row; so have those of Cost in their own table
  *   FORMAT.md     every row of the kinds and patterns: the name has its number, and the library takes just these map bits and children;
  *                 every limit has its value; the bytes of the example are examples/prefix.term and its core; the C code stands in
  *                 examples/c/desugar.c
@@ -109,6 +109,7 @@ static const struct {
     N(NETKAT_MAX_LITERAL_BITS),
     N(NETKAT_MAX_PREFIX),
     N(NETKAT_MAX_RANGE_PATTERN_FIELDS),
+    N(NETKAT_MAX_RANGE_PATTERN_COST),
     N(NETKAT_RECORD_MAX),
     N(NETKAT_TERM_MAX),
 };
@@ -210,13 +211,18 @@ static uint32_t work[NETKAT_WORK_LEN(NETKAT_MAX_ALLOWANCE)];
 static uint8_t out[NETKAT_CORE_MAX(NETKAT_MAX_ALLOWANCE)];
 
 static netkat_answer call(char *words) {
-    static struct bytes term, replacement;
-    char *w[5] = {"", "", "", "", ""};
-    uint32_t n[5];
+    static struct bytes term, replacement, a, b;
+    char *w[9] = {"", "", "", "", "", "", "", "", ""};
+    uint32_t n[9];
     int count = 0;
-    for (char *word = strtok(words, " "); word && count < 5; word = strtok(NULL, " ")) w[count++] = word;
-    for (int i = 0; i < 5; i++) n[i] = (uint32_t)strtoul(w[i], NULL, 10);
+    for (char *word = strtok(words, " "); word && count < 9; word = strtok(NULL, " ")) w[count++] = word;
+    for (int i = 0; i < 9; i++) n[i] = (uint32_t)strtoul(w[i], NULL, 10);
     if (strcmp(w[0], "subrange") == 0) return netkat_compute_subrange(n[1], n[2], n[3], n[4]);
+    if (strcmp(w[0], "cost") == 0) {
+        read_term(&a, w[6]);
+        read_term(&b, w[8]);
+        return netkat_cost(n[1], n[2], n[3], n[4], a.at, a.len, n[5], b.at, b.len, n[7]);
+    }
     read_term(&term, w[1]);
     if (strcmp(w[0], "check") == 0) return netkat_check(term.at, term.len);
     if (strcmp(w[0], "fields") == 0) return netkat_num_fields(term.at, term.len);
@@ -229,25 +235,39 @@ static netkat_answer call(char *words) {
     return (netkat_answer){0, 0, 0, 0};
 }
 
+/* Is the call, which may stand in backquotes, refused by the number at the place? */
+static void check_call(char *words, uint32_t number, uint32_t place) {
+    words += *words == '`';
+    words[strcspn(words, "`")] = 0;
+    memset(out, 0xa5, 64);
+    netkat_answer a = call(words);
+    if (a.number != number || a.place != place || a.first || a.second)
+        WRONG("the call of %u: %u %u %u %u, expected %u %u 0 0", number, a.number, a.place, a.first, a.second, number, place);
+    for (int i = 0; i < 64; i++)
+        if (out[i] != 0xa5) WRONG("the call of %u changed the buffer", number);
+}
+
 static void refusals(const char *page) {
     char *text = section(page, "## The table\n"), *cell[CELLS];
-    int rows[39] = {0};
+    int rows[39] = {0}, of_cost[39] = {0};
     while (next_row(&text, cell)) {
-        uint32_t number = (uint32_t)strtoul(cell[0], NULL, 10), place = (uint32_t)strtoul(cell[5], NULL, 10);
+        uint32_t number = (uint32_t)strtoul(cell[0], NULL, 10);
         if (!isdigit((unsigned char)*cell[0])) continue;
         check_name(cell[1], number);
         if (number < 39) rows[number]++;
-        char *words = cell[4] + (*cell[4] == '`');
-        words[strcspn(words, "`")] = 0;
-        memset(out, 0xa5, 64);
-        netkat_answer a = call(words);
-        if (a.number != number || a.place != place || a.first || a.second)
-            WRONG("the call of %u: %u %u %u %u, expected %u %u 0 0", number, a.number, a.place, a.first, a.second, number, place);
-        for (int i = 0; i < 64; i++)
-            if (out[i] != 0xa5) WRONG("the call of %u changed the buffer", number);
+        check_call(cell[4], number, (uint32_t)strtoul(cell[5], NULL, 10));
     }
-    for (int i = 0; i < 39; i++)
+    text = section(page, "## Refusals of netkat_cost\n");
+    while (next_row(&text, cell)) {
+        uint32_t number = (uint32_t)strtoul(cell[0], NULL, 10);
+        if (!isdigit((unsigned char)*cell[0])) continue;
+        if (number < 39) of_cost[number]++;
+        check_call(cell[2], number, 0);
+    }
+    for (int i = 0; i < 39; i++) {
         if (rows[i] != ((i >= 1 && i <= 28) || i >= 31)) WRONG("%d rows for %d", rows[i], i);
+        if (of_cost[i] != (i == 1 || i == 5 || i == 14 || i == 15 || (i >= 17 && i <= 21))) WRONG("%d rows for %d of cost", of_cost[i], i);
+    }
 }
 
 /* Does the library take a record of this kind with this map bit? In a match a number and a literal B depend on the pattern. */
@@ -283,7 +303,7 @@ static void format(const char *page) {
         check_name(cell[2], value);
         rows++;
     }
-    if (rows != 7) WRONG("%d limits", rows);
+    if (rows != 8) WRONG("%d limits", rows);
 
     rows = 0;
     text = section(page, "## Kinds\n");
@@ -342,7 +362,7 @@ static void code(char *page) {
         if (!strstr(program, at)) WRONG("this code is not in examples/c/desugar.c:\n%s", at);
         at = end + 3;
     }
-    if (blocks != 6) WRONG("%d pieces of code", blocks);
+    if (blocks != 7) WRONG("%d pieces of code", blocks);
 }
 
 int main(void) {

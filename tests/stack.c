@@ -5,9 +5,10 @@
  *   stack define     measures and prints the lines for include/netkat.h: `make stack`
  *
  * Measured over terms of 256 levels: a chain of each kind through each of its children above each of a list of small bottoms; chains of
- * random kinds with random siblings; for Substitute also deep replacements at variables of several levels. A thread gets a stack that was
- * filled with a pattern; the lowest byte that is not the pattern any more shows how deep it went. It counts from the frame of `run`, which
- * calls the library: the thread's own frames, and what the C library keeps above them, are left out, some 100 bytes of `run` are in.
+ * random kinds with random siblings; for Substitute also deep replacements at variables of several levels. Cost, which is lent no term, is
+ * measured over the matches among the bottoms. A thread gets a stack that was filled with a pattern; the lowest byte that is not the
+ * pattern any more shows how deep it went. It counts from the frame of `run`, which calls the library: the thread's own frames, and what
+ * the C library keeps above them, are left out, some 100 bytes of `run` are in.
  *
  * A run on a promised stack is made in a thread too, whose stack ends at a page without access. Before it calls `run` it takes up (alloca)
  * all but the promised bytes, so that neither PTHREAD_STACK_MIN nor what lies above the call plays a part. Each run is a process of its
@@ -29,7 +30,7 @@
 #define STACK ((size_t)2 << 20)
 #define RANDOM_TERMS 1000
 
-enum function { CHECK, DESUGAR, SUBSTITUTE, FRAGMENT, FIELDS, SUBRANGE, FUNCTIONS };
+enum function { CHECK, DESUGAR, SUBSTITUTE, FRAGMENT, FIELDS, SUBRANGE, COST, FUNCTIONS };
 
 static const struct {
     const char *name, *define;
@@ -41,6 +42,7 @@ static const struct {
     {"netkat_is_test_fragment", "NETKAT_STACK_IS_TEST_FRAGMENT", NETKAT_STACK_IS_TEST_FRAGMENT},
     {"netkat_num_fields", "NETKAT_STACK_NUM_FIELDS", NETKAT_STACK_NUM_FIELDS},
     {"netkat_compute_subrange", "NETKAT_STACK_COMPUTE_SUBRANGE", NETKAT_STACK_COMPUTE_SUBRANGE},
+    {"netkat_cost", "NETKAT_STACK_COST", NETKAT_STACK_COST},
 };
 
 static const char *kinds[] = {
@@ -155,6 +157,16 @@ struct call {
 static uint32_t work[NETKAT_WORK_LEN(NETKAT_MAX_ALLOWANCE)];
 static uint8_t out[NETKAT_CORE_MAX(NETKAT_MAX_ALLOWANCE)];
 
+/* Cost of the parts of a record: a match on the fields from 0 to an end that is below 256, as the bottoms have it. */
+static void cost(const uint8_t *record) {
+    const uint8_t map = record[0], *at = record + 6;
+    uint32_t pattern = map & NETKAT_MAP_PATTERN ? *at++ : 0, number = map & NETKAT_MAP_NUMBER ? *at++ : 0;
+    uint32_t a_bits = *at++, a_len = (a_bits + 7) / 8;
+    const uint8_t *a = at, *b = a + a_len + 1;
+    uint32_t b_bits = map & NETKAT_MAP_B ? b[-1] : 0;
+    netkat_cost(0, record[2], pattern, number, a, a_len, a_bits, b, (b_bits + 7) / 8, b_bits);
+}
+
 static __attribute__((noinline)) void run(struct call *c) {
     const uint8_t *s = c->term->bytes;
     size_t n = c->term->len;
@@ -165,7 +177,8 @@ static __attribute__((noinline)) void run(struct call *c) {
     case SUBSTITUTE: netkat_substitute(s, n, 0, c->replacement->bytes, c->replacement->len, out, sizeof out); break;
     case FRAGMENT: netkat_is_test_fragment(s, n); break;
     case FIELDS: netkat_num_fields(s, n); break;
-    default: netkat_compute_subrange(4, 8, 1, 3); break;
+    case SUBRANGE: netkat_compute_subrange(4, 8, 1, 3); break;
+    default: cost(s); break;
     }
 }
 
@@ -285,6 +298,16 @@ static void replacements(void) {
                 }
 }
 
+/* Cost: each match on a direct range. */
+static void patterns(void) {
+    for (size_t b = 0; b < COUNT(bottoms); b++)
+        if (bottoms[b].len > 1 && bottoms[b].bytes[1] == NETKAT_KIND_BIT_RANGE_MATCH) {
+            chain(&term, NULL, 0, bottoms[b].bytes, bottoms[b].len, 0);
+            snprintf(term.shape, sizeof term.shape, "%s", bottoms[b].name);
+            measure(COST, &term, &zero);
+        }
+}
+
 /* Does the call end well on so much stack? With `own` in a thread as a user makes it, with PTHREAD_STACK_MIN more. */
 static int survives(enum function f, size_t promised, int own) {
     struct call c = {f, &worst[f].term, &worst[f].replacement, NULL, stack, promised};
@@ -314,6 +337,7 @@ int main(int argc, char **argv) {
     random_terms();
     replacements();
     measure(SUBRANGE, &zero, &zero);
+    patterns();
 
     for (int f = 0; f < FUNCTIONS; f++) {
         size_t bytes = worst[f].bytes, promised = functions[f].promised;

@@ -2,14 +2,15 @@
 # cases.py VECTORS... > FILE: turns vector lines (docs/TESTS.md has their form) into the file that the program `replay` reads.
 #
 # A case is a head of 32 bytes, then the term, the replacement, and the bytes that a successful Substitute or Desugar must write. The
-# head, numbers little-endian: operation (1 check, 2 fragment, 3 fields, 4 substitute, 5 desugar, 6 subrange, 7 compare), 1 for success or
-# 0 for a refusal, name (2 bytes), lengths of the term, of the replacement and of the answer buffer, allowance, length of work memory, then
-# of a success the two values, of a refusal its number and place (4 bytes each). What an operation does not take is 0. The term of a
-# subrange is its four numbers. A comparison has the bytes of its two bounds for term and replacement, the width for the allowance, and the
-# bounds' lengths in bits for the lengths of work memory and answer buffer.
+# head, numbers little-endian: operation (1 check, 2 fragment, 3 fields, 4 substitute, 5 desugar, 6 subrange, 7 compare, 8 cost), 1 for
+# success or 0 for a refusal, name (2 bytes), lengths of the term, of the replacement and of the answer buffer, allowance, length of work
+# memory, then of a success the two values, of a refusal its number and place (4 bytes each). What an operation does not take is 0. The term
+# of a subrange is its four numbers. A comparison has the bytes of its two bounds for term and replacement, the width for the allowance, and
+# the bounds' lengths in bits for the lengths of work memory and answer buffer. A cost has for term six numbers (start, end, pattern, number,
+# lengths of A and of B in bits) and behind them the bytes of A, for replacement the bytes of B, and for values the low and the high half.
 import struct, sys
 
-CHECK, FRAGMENT, FIELDS, SUBSTITUTE, DESUGAR, SUBRANGE, COMPARE = 1, 2, 3, 4, 5, 6, 7
+CHECK, FRAGMENT, FIELDS, SUBSTITUTE, DESUGAR, SUBRANGE, COMPARE, COST = 1, 2, 3, 4, 5, 6, 7, 8
 WITH_ONE_VALUE = {"check": CHECK, "fragment": FRAGMENT, "fields": FIELDS}
 
 
@@ -32,6 +33,10 @@ def of_line(line):
         width, a_bits, b_bits = (int(words[i]) for i in (1, 2, 4))
         taken = {"replacement": unhex(words[5]), "allowance": width, "work": a_bits, "room": b_bits}
         return case(COMPARE, ok, unhex(words[3]), int(answer[1]), int(answer[2]), **taken)
+    if operation == "cost":
+        numbers = struct.pack("<6I", *(int(words[i]) for i in (1, 2, 3, 4, 5, 7)))
+        first, second = (int(answer[1]) & 0xffffffff, int(answer[1]) >> 32) if ok else map(int, answer[1:3])
+        return case(COST, ok, numbers + unhex(words[6]), first, second, replacement=unhex(words[8]))
     term = unhex(words[1])
     if operation in WITH_ONE_VALUE:
         second = 0 if ok else int(answer[2])

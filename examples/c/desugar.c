@@ -1,5 +1,5 @@
-/* An access rule as term bytes, its check, its core, what a refusal looks like, and a label stack as a literal. Needs nothing but an
- * installed libnetkat:
+/* An access rule as term bytes, its check, its core, what a refusal looks like, a label stack as a literal, and what a range of ports will
+ * cost. Needs nothing but an installed libnetkat:
  *
  *   cc desugar.c $(pkg-config --cflags --libs netkat) -o desugar && ./desugar
  *
@@ -9,6 +9,7 @@
  *   let segment = [0, 4) in
  *   let service = [4, 8) in
  *   if not (segment matches 8/4 prefix 1 and service == 3) then field 8 := 1 else Zero */
+#include <inttypes.h>
 #include <netkat.h>
 #include <stdio.h>
 #include <stdlib.h>
@@ -165,6 +166,14 @@ static void show(const struct term *t) {
     print_core(core, made.first);
 }
 
+/* What a match on 16 fields with the ports from one to another will draw. */
+static void show_cost(uint16_t from, uint16_t to) {
+    const uint8_t a[] = {from & 255, from >> 8}, b[] = {to & 255, to >> 8};
+    netkat_answer cost = netkat_cost(0, 16, NETKAT_PATTERN_IP_RANGE, 0, a, sizeof a, 16, b, sizeof b, 16);
+    if (refused(cost)) return;
+    printf("  a match draws %" PRIu64 " nodes\n", NETKAT_COST(cost));
+}
+
 int main(void) {
     static struct term term;
     puts("guests do not reach service 3:");
@@ -177,5 +186,7 @@ int main(void) {
     put_labels(&term, (const uint32_t[WORDS]){0x10040, 0x11040, 0x12040}, 3);
     netkat_answer checked = netkat_check(term.bytes, term.len);
     if (!refused(checked)) printf("  term of %zu bytes: the rules hold\n", term.len);
+    puts("the ports from 1024 to 49151, before a rule is written with them:");
+    show_cost(1024, 49151);
     return 0;
 }

@@ -2,41 +2,15 @@
 //! it, so these lines go through the program `replay` (bounds.sh) and second.py. A line's refusals are those of a caller that is lent
 //! the bounds and judges them as a range pattern's.
 use crate::gen::Rng;
-use crate::model::{Res, MAX_LITERAL, MAX_RANGE_BITS};
+use crate::lent::Lent;
+use crate::model::{Res, MAX_RANGE_BITS};
 
 const EQUAL: u32 = 0;
 const BELOW: u32 = 1;
-const ABOVE: u32 = 2;
-
-/// A bound as it is lent: its length in bits, and bytes, of which some may lack or stand over.
-#[derive(Clone)]
-pub struct Bound {
-    pub bits: u32,
-    pub bytes: Vec<u8>,
-}
-
-impl Bound {
-    fn of(value: u128, bits: u32) -> Bound {
-        Bound { bits, bytes: value.to_le_bytes()[..bits.div_ceil(8) as usize].to_vec() }
-    }
-
-    fn judge(&self) -> Res<()> {
-        if self.bits as usize > MAX_LITERAL {
-            return Err((5, 0));
-        }
-        if self.bytes.len() < self.bits.div_ceil(8) as usize {
-            return Err((1, 0));
-        }
-        Ok(())
-    }
-
-    fn at(&self, i: u32) -> bool {
-        i < self.bits && self.bytes[i as usize / 8] >> (i % 8) & 1 == 1
-    }
-}
+pub const ABOVE: u32 = 2;
 
 /// The order's number and the count of bits, from the top bit to the first that differs.
-pub fn compare(width: u32, a: &Bound, b: &Bound) -> Res<(u32, u32)> {
+pub fn compare(width: u32, a: &Lent, b: &Lent) -> Res<(u32, u32)> {
     a.judge()?;
     b.judge()?;
     if width as u64 > MAX_RANGE_BITS || a.bits > width || b.bits > width {
@@ -53,17 +27,12 @@ pub fn compare(width: u32, a: &Bound, b: &Bound) -> Res<(u32, u32)> {
     Ok((EQUAL, width))
 }
 
-/// All bounds over a field of `width` bits, at every length that it holds.
-fn all(width: u32) -> Vec<Bound> {
-    (0..=width).flat_map(|bits| (0..1 << bits).map(move |value| Bound::of(value, bits))).collect()
-}
-
 /// All pairs of bounds over fields of at most five bits, then `count` random ones.
-pub fn pairs(seed: u64, count: u64) -> Vec<(u32, Bound, Bound)> {
+pub fn pairs(seed: u64, count: u64) -> Vec<(u32, Lent, Lent)> {
     let mut pairs = Vec::new();
     for width in 0..=5 {
-        for a in all(width) {
-            pairs.extend(all(width).into_iter().map(|b| (width, a.clone(), b)));
+        for a in Lent::all(width) {
+            pairs.extend(Lent::all(width).into_iter().map(|b| (width, a.clone(), b)));
         }
     }
     let random = (0..count).map(|i| random(&mut Rng::new(seed.wrapping_mul(0x1_0000_0005).wrapping_add(i))));
@@ -80,7 +49,7 @@ fn low_bits(n: u32) -> u128 {
 }
 
 /// Bounds that are equal above some bit, many of them with high zeros, at full length or without some of these; one in ten lent carelessly.
-fn random(r: &mut Rng) -> (u32, Bound, Bound) {
+pub fn random(r: &mut Rng) -> (u32, Lent, Lent) {
     let mut width = match r.below(6) {
         0 => 128,
         1 => *r.pick(&[0, 1, 63, 64, 65, 127]),
@@ -92,7 +61,7 @@ fn random(r: &mut Rng) -> (u32, Bound, Bound) {
     let second = first & !low_bits(below) | wide(r) & low_bits(if r.bool() { below } else { below.min(short) });
     let mut bounds = [first, second].map(|value| {
         let least = 128 - value.leading_zeros();
-        Bound::of(value, if r.bool() { least + r.below((width - least) as u64 + 1) as u32 } else { width })
+        Lent::of(value, if r.bool() { least + r.below((width - least) as u64 + 1) as u32 } else { width })
     });
     if r.pct(10) {
         let which = r.below(2) as usize;
@@ -102,14 +71,10 @@ fn random(r: &mut Rng) -> (u32, Bound, Bound) {
     (width, a, b)
 }
 
-/// A byte lacking, a byte or a bit too many, or a length or a width out of range.
-fn spoil(r: &mut Rng, bound: &mut Bound, width: &mut u32) {
+/// A bound lent carelessly, or a width out of range.
+fn spoil(r: &mut Rng, bound: &mut Lent, width: &mut u32) {
     match r.below(6) {
-        0 => drop(bound.bytes.pop()),
-        1 => bound.bytes.push(r.next() as u8),
-        2 => bound.bytes.last_mut().into_iter().for_each(|last| *last |= 0x80),
-        3 => bound.bits = *r.pick(&[193, 200, 255, 1000, u32::MAX]),
-        4 => *bound = Bound { bits: 129 + r.below(64) as u32, bytes: vec![r.next() as u8; 24] },
-        _ => *width = *r.pick(&[0, 3, 129, 192, 1000, u32::MAX]),
+        5 => *width = *r.pick(&[0, 3, 129, 192, 1000, u32::MAX]),
+        how => bound.spoil(r, how),
     }
 }

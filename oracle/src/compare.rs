@@ -8,7 +8,7 @@ use std::fmt::Debug;
 use std::panic::{catch_unwind, AssertUnwindSafe};
 
 /// The comparison with the original makes no core with more nodes than this.
-const LARGEST_CORE: u64 = 150_000;
+pub const LARGEST_CORE: u64 = 150_000;
 /// Work of the original, in nodes, above which it is not called.
 const MOST_WORK: u64 = 3_000_000;
 /// Cores above this, times the bindings around: the original copies all bindings at each binding.
@@ -21,7 +21,7 @@ const SHORT: usize = u128::BITS as usize;
 /// What was compared, and what differed, with the shortest input for each kind of difference.
 #[derive(Default)]
 pub struct Stats {
-    inputs: u64,
+    pub inputs: u64,
     counts: BTreeMap<String, u64>,
     records: [u64; 27],
     long_literals: LongLiterals,
@@ -78,22 +78,22 @@ impl LongLiterals {
 }
 
 impl Stats {
-    fn count(&mut self, what: &str) {
+    pub fn count(&mut self, what: &str) {
         *self.counts.entry(what.to_string()).or_default() += 1;
     }
-    fn differs(&mut self, what: &str, times: u64, detail: String) {
+    pub fn differs(&mut self, what: &str, times: u64, detail: String) {
         let entry = self.differences.entry(what.to_string()).or_insert((0, detail.clone()));
         entry.0 += times;
         if detail.len() < entry.1.len() {
             entry.1 = detail;
         }
     }
-    fn expect(&mut self, good: bool, what: &str, detail: impl Fn() -> String) {
+    pub fn expect(&mut self, good: bool, what: &str, detail: impl Fn() -> String) {
         if !good {
             self.differs(what, 1, detail());
         }
     }
-    fn same<T: PartialEq + Debug>(&mut self, what: &str, input: &str, model: T, other: T) {
+    pub fn same<T: PartialEq + Debug>(&mut self, what: &str, input: &str, model: T, other: T) {
         self.expect(model == other, what, || format!("{input}: model {model:?}, other {other:?}"));
     }
     pub fn merge(&mut self, other: Stats) {
@@ -115,7 +115,9 @@ impl Stats {
         for (what, n) in &self.counts {
             println!("  {what}: {n}");
         }
-        println!("  records of kinds 0 to 26: {:?}", self.records);
+        if self.records != [0; 27] {
+            println!("  records of kinds 0 to 26: {:?}", self.records);
+        }
         self.long_literals.print();
         for (what, (times, detail)) in &self.differences {
             println!("DIFFERENCE {what}: {times} times, shortest {detail}");

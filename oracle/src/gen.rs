@@ -279,6 +279,12 @@ impl<'a> Gen<'a> {
         let f = self.field();
         Node { kind, start: f, num: self.r.bool() as u8, ..Node::default() }
     }
+    pub fn range_match(&mut self) -> Node {
+        let (s, e) = self.range();
+        let mut n = Node { kind: RANGEMATCH, start: s, end: e, ..Node::default() };
+        self.pattern(&mut n, e.saturating_sub(s));
+        n
+    }
     fn test_leaf(&mut self) -> Node {
         if self.slips() {
             if self.r.pct(50) {
@@ -300,12 +306,7 @@ impl<'a> Gen<'a> {
                 let (s, e) = self.range();
                 Node { kind: RANGETEST, start: s, end: e, a: self.range_literal(s, e), ..Node::default() }
             }
-            9 | 10 => {
-                let (s, e) = self.range();
-                let mut n = Node { kind: RANGEMATCH, start: s, end: e, ..Node::default() };
-                self.pattern(&mut n, e.saturating_sub(s));
-                n
-            }
+            9 | 10 => self.range_match(),
             11 | 12 => match self.alias() {
                 Some((name, s, e)) => {
                     let mut n = Node { kind: VARMATCH, name, ..Node::default() };

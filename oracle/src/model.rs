@@ -215,11 +215,14 @@ pub fn longest_literal(bytes: &[u8]) -> usize {
     r.longest
 }
 
+/// Eight bits a byte, the least significant first.
+pub fn packed(bits: &[bool]) -> Vec<u8> {
+    bits.chunks(8).map(|chunk| chunk.iter().enumerate().fold(0, |b, (i, x)| b | (*x as u8) << i)).collect()
+}
+
 fn put_literal(out: &mut Vec<u8>, bits: &[bool]) {
     out.push(bits.len() as u8);
-    for chunk in bits.chunks(8) {
-        out.push(chunk.iter().enumerate().fold(0, |b, (i, x)| b | (*x as u8) << i));
-    }
+    out.extend(packed(bits));
 }
 
 pub fn put_record(n: &Node, out: &mut Vec<u8>) {
@@ -339,7 +342,7 @@ fn chain(kind: u8, mut items: Vec<Core>) -> Core {
 }
 
 /// Node count of a chain of n leaves.
-fn chain_size(n: u64) -> u64 {
+pub fn chain_size(n: u64) -> u64 {
     if n == 0 { 1 } else { 2 * n - 1 }
 }
 
@@ -368,7 +371,7 @@ fn bound_term(start: u32, bound: &[bool], upper: bool) -> Core {
 }
 
 /// Node count of a bound term: 2w - 1, and 2k + 2 for each deciding bit at distance k from the top.
-fn bound_cost(bound: &[bool], upper: bool) -> u64 {
+pub fn bound_cost(bound: &[bool], upper: bool) -> u64 {
     let w = bound.len();
     let mut n = 2 * w as u64 - 1;
     for i in 0..w {
@@ -425,7 +428,7 @@ impl Plan {
 }
 
 /// Of at most MAX_RANGE_BITS bits.
-fn value(bits: &[bool]) -> u128 {
+pub fn value(bits: &[bool]) -> u128 {
     bits.iter().enumerate().fold(0, |v, (i, b)| v | (*b as u128) << i)
 }
 

@@ -15,13 +15,17 @@ fn unname(s: &str) -> u16 {
     s[1..].parse().unwrap()
 }
 
-fn pattern(n: &Node) -> Pattern {
-    match n.pat {
-        0 => Pattern::Exact(n.a.clone()),
-        1 => Pattern::Cidr { address: n.a.clone(), prefix_len: n.num as usize },
-        2 => Pattern::Wildcard { address: n.a.clone(), mask: n.b.clone() },
-        _ => Pattern::IpRange { start: n.a.clone(), end: n.b.clone() },
+fn pattern(kind: u32, number: u32, a: Vec<bool>, b: Vec<bool>) -> Pattern {
+    match kind {
+        0 => Pattern::Exact(a),
+        1 => Pattern::Cidr { address: a, prefix_len: number as usize },
+        2 => Pattern::Wildcard { address: a, mask: b },
+        _ => Pattern::IpRange { start: a, end: b },
     }
+}
+
+fn node_pattern(n: &Node) -> Pattern {
+    pattern(n.pat as u32, n.num as u32, n.a.clone(), n.b.clone())
 }
 
 pub fn to_expr(n: &Node) -> Exp {
@@ -53,8 +57,8 @@ pub fn to_expr(n: &Node) -> Exp {
         22 => Expr::var_test(nm(), n.a.clone()),
         23 => Expr::bit_range_assign(n.start, n.end, n.a.clone()),
         24 => Expr::bit_range_test(n.start, n.end, n.a.clone()),
-        25 => Expr::bit_range_match(n.start, n.end, pattern(n)),
-        26 => Expr::var_match(nm(), pattern(n)),
+        25 => Expr::bit_range_match(n.start, n.end, node_pattern(n)),
+        26 => Expr::var_match(nm(), node_pattern(n)),
         _ => unreachable!(),
     }
 }
@@ -164,12 +168,6 @@ fn read_expr(rest: &mut &[u8]) -> Option<Exp> {
     let num = read_number(rest, has(5), 1)?;
     let a = read_literal(rest, has(6))?;
     let b = read_literal(rest, has(7))?;
-    let pattern = |a, b| match pat {
-        0 => Pattern::Exact(a),
-        1 => Pattern::Cidr { address: a, prefix_len: num as usize },
-        2 => Pattern::Wildcard { address: a, mask: b },
-        _ => Pattern::IpRange { start: a, end: b },
-    };
     let mut child = || read_expr(rest);
     Some(match kind {
         0 => Expr::zero(),
@@ -197,8 +195,8 @@ fn read_expr(rest: &mut &[u8]) -> Option<Exp> {
         22 => Expr::var_test(name(name_number), a),
         23 => Expr::bit_range_assign(start, end, a),
         24 => Expr::bit_range_test(start, end, a),
-        25 => Expr::bit_range_match(start, end, pattern(a, b)),
-        26 => Expr::var_match(name(name_number), pattern(a, b)),
+        25 => Expr::bit_range_match(start, end, pattern(pat, num, a, b)),
+        26 => Expr::var_match(name(name_number), pattern(pat, num, a, b)),
         _ => return None,
     })
 }
@@ -285,14 +283,31 @@ fn caught<T>(call: impl FnOnce() -> T + UnwindSafe) -> Result<T, String> {
 }
 
 /// The core, or a number and the message.
-pub fn desugar(n: &Node) -> Result<Vec<u8>, (u32, String)> {
-    let e = to_expr(n);
-    let message = match caught(|| crate::desugar::desugar(&e)) {
-        Ok(Ok(c)) => return Ok(expr_bytes(&c)),
+fn core(e: &Exp) -> Result<Exp, (u32, String)> {
+    let message = match caught(|| crate::desugar::desugar(e)) {
+        Ok(Ok(c)) => return Ok(c),
         Ok(Err(e)) => e.message,
         Err(panic) => panic,
     };
     Err((number(&message), message))
+}
+
+pub fn desugar(n: &Node) -> Result<Vec<u8>, (u32, String)> {
+    core(&to_expr(n)).map(|c| expr_bytes(&c))
+}
+
+/// How many nodes the core of a direct match has. The prefix may be one that a record's byte does not hold.
+pub fn match_nodes(start: u32, end: u32, kind: u32, prefix: u32, a: Vec<bool>, b: Vec<bool>) -> Result<u64, (u32, String)> {
+    core(&Expr::bit_range_match(start, end, pattern(kind, prefix, a, b))).map(|c| node_count(&c))
+}
+
+fn node_count(e: &Expr) -> u64 {
+    let (mut nodes, mut stack) = (0, vec![e]);
+    while let Some(e) = stack.pop() {
+        nodes += 1;
+        stack.extend(record(e).1);
+    }
+    nodes
 }
 
 /// Whether a message that shows this term panics in a build that checks overflow: the original shows a literal by `1 << i`, as a u128.

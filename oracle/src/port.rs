@@ -1,5 +1,6 @@
 //! The functions of include/netkat.h. Each wrapper also looks for what the header rules out: values beside a refusal, a changed byte
-//! where none may change, a number written behind the lent work memory. It panics there.
+//! where none may change, a number written behind the lent work memory, an answer that hangs on bytes behind a literal. It panics there.
+use crate::costs::Match;
 use crate::model::{Desugared, Res};
 
 #[repr(C)]
@@ -22,6 +23,9 @@ extern "C" {
     fn netkat_is_test_fragment(term: *const u8, term_len: usize) -> Answer;
     fn netkat_num_fields(term: *const u8, term_len: usize) -> Answer;
     fn netkat_compute_subrange(alias_start: u32, alias_end: u32, sub_start: u32, sub_end: u32) -> Answer;
+    fn netkat_cost(
+        start: u32, end: u32, pattern: u32, number: u32, a: *const u8, a_len: usize, a_bits: u32, b: *const u8, b_len: usize, b_bits: u32,
+    ) -> Answer;
 }
 
 /// The operation's values, or number and place of the refusal.
@@ -113,4 +117,20 @@ pub fn fields(term: &[u8]) -> Res<u32> {
 
 pub fn subrange(a: u32, b: u32, s: u32, e: u32) -> Res<(u32, u32)> {
     values(unsafe { netkat_compute_subrange(a, b, s, e) })
+}
+
+pub fn cost(m: &Match) -> Res<u64> {
+    let [answer, other] = [0, 0xff].map(|behind| cost_before(m, behind));
+    assert!(answer == other, "bytes behind the literals count: {answer:?}, {other:?}");
+    answer
+}
+
+/// Each literal is lent as the front of a buffer that goes on with these bytes.
+fn cost_before(m: &Match, behind: u8) -> Res<u64> {
+    let [a, b] = [&m.a, &m.b].map(|lent| [&lent.bytes[..], &[behind; BEHIND]].concat());
+    let (a_len, b_len) = (m.a.bytes.len(), m.b.bytes.len());
+    let answer = unsafe {
+        netkat_cost(m.start, m.end, m.pattern, m.number, a.as_ptr(), a_len, m.a.bits, b.as_ptr(), b_len, m.b.bits)
+    };
+    values(answer).map(|(low, high)| (high as u64) << 32 | low as u64)
 }

@@ -1,7 +1,9 @@
 //! Vector files: one case a line. docs/TESTS.md has the form of the lines.
-use crate::bounds::{self, Bound};
+use crate::bounds;
 use crate::compare::Stats;
+use crate::costs::{self, Match};
 use crate::gen::{self, Gen, Rng};
+use crate::lent::Lent;
 use crate::model::{self, *};
 use crate::port;
 
@@ -24,7 +26,8 @@ enum Case {
     Fields(Vec<u8>),
     Subrange([u32; 4]),
     /// Two bounds over a field of so many bits. The library exports no function for it: the model alone answers.
-    Compare(u32, Bound, Bound),
+    Compare(u32, Lent, Lent),
+    Cost(Match),
     /// The program of document 01 on a term.
     Program(Vec<u8>),
 }
@@ -37,6 +40,7 @@ struct Answerer {
     fragment: fn(&[u8]) -> Res<bool>,
     fields: fn(&[u8]) -> Res<u32>,
     subrange: fn(u32, u32, u32, u32) -> Res<(u32, u32)>,
+    cost: fn(&Match) -> Res<u64>,
 }
 const MODEL: Answerer = Answerer {
     desugar: model::desugar,
@@ -45,6 +49,7 @@ const MODEL: Answerer = Answerer {
     fragment: model::fragment,
     fields: model::fields,
     subrange: model::subrange,
+    cost: costs::cost,
 };
 const PORT: Answerer = Answerer {
     desugar: port::desugar,
@@ -53,6 +58,7 @@ const PORT: Answerer = Answerer {
     fragment: port::fragment,
     fields: port::fields,
     subrange: port::subrange,
+    cost: port::cost,
 };
 
 fn show<T>(r: Res<T>, values: impl Fn(T) -> String) -> String {
@@ -66,6 +72,7 @@ impl Case {
     fn parse(question: &str) -> Case {
         let words: Vec<&str> = question.split(' ').collect();
         let number = |i: usize| words[i].parse::<u64>().expect("a number");
+        let lent = |i: usize| Lent { bits: number(i) as u32, bytes: unhex(words[i + 1]) };
         match words[0] {
             "desugar" => Case::Desugar { term: unhex(words[1]), allowance: number(2), work: number(3), out: number(4) },
             "check" => Case::Check(unhex(words[1])),
@@ -75,9 +82,10 @@ impl Case {
             "fragment" => Case::Fragment(unhex(words[1])),
             "fields" => Case::Fields(unhex(words[1])),
             "subrange" => Case::Subrange([1, 2, 3, 4].map(|i| number(i) as u32)),
-            "compare" => {
-                let bound = |i: usize| Bound { bits: number(i) as u32, bytes: unhex(words[i + 1]) };
-                Case::Compare(number(1) as u32, bound(2), bound(4))
+            "compare" => Case::Compare(number(1) as u32, lent(2), lent(4)),
+            "cost" => {
+                let [start, end, pattern, number] = [1, 2, 3, 4].map(|i| number(i) as u32);
+                Case::Cost(Match { start, end, pattern, number, a: lent(5), b: lent(7) })
             }
             term => Case::Program(unhex(term)),
         }
@@ -93,7 +101,8 @@ impl Case {
             Case::Fragment(t) => format!("fragment {}", hex(t)),
             Case::Fields(t) => format!("fields {}", hex(t)),
             Case::Subrange([a, b, s, e]) => format!("subrange {a} {b} {s} {e}"),
-            Case::Compare(width, a, b) => format!("compare {width} {} {} {} {}", a.bits, hex(&a.bytes), b.bits, hex(&b.bytes)),
+            Case::Compare(width, a, b) => format!("compare {width} {} {}", a.text(), b.text()),
+            Case::Cost(m) => m.question(),
             Case::Program(t) => hex(t),
         }
     }
@@ -111,6 +120,7 @@ impl Case {
             Case::Fields(t) => show((by.fields)(t), |n| format!("{n}")),
             Case::Subrange([a, b, s, e]) => show((by.subrange)(*a, *b, *s, *e), |(from, to)| format!("{from} {to}")),
             Case::Compare(width, a, b) => show(bounds::compare(*width, a, b), |(order, looked)| format!("{order} {looked}")),
+            Case::Cost(m) => show((by.cost)(m), |nodes| format!("{nodes}")),
             Case::Program(t) if t.len() > 8192 => "long".into(),
             Case::Program(t) => {
                 show((by.desugar)(t, 1000, work_needed(1000), 7000), |d| format!("{} {} | {}", d.drawn, d.core.len(), hex(&d.core)))
@@ -127,12 +137,13 @@ impl Case {
         match self {
             Case::Desugar { term, .. } | Case::Substitute { term, .. } => Some(term),
             Case::Check(t) | Case::Fragment(t) | Case::Fields(t) | Case::Program(t) => Some(t),
-            Case::Subrange(_) | Case::Compare(..) => None,
+            Case::Subrange(_) | Case::Compare(..) | Case::Cost(_) => None,
         }
     }
 }
 
-/// Each line's answer by the model and by the port; its term also through every comparison of compare.rs.
+/// Each line's answer by the model and by the port; its term also through every comparison of compare.rs, its lent match through those of
+/// costs.rs.
 pub fn replay(files: &[String]) -> bool {
     let mut stats = Stats::default();
     let mut all_good = true;
@@ -150,8 +161,11 @@ pub fn replay(files: &[String]) -> bool {
                 bad += 1;
                 println!("DIFFERENCE {line}\n    model {model}\n    port  {port}");
             }
+            let mut r = Rng::new(good + bad);
             if let Some(term) = case.term() {
-                stats.case(term, &mut Rng::new(good + bad));
+                stats.case(term, &mut r);
+            } else if let Case::Cost(m) = &case {
+                costs::case(&mut stats, m, &mut r);
             }
         }
         println!("{file}: {good} as expected, {bad} not");
@@ -189,6 +203,9 @@ pub fn bounds(seed: u64, count: u64) -> bool {
 }
 
 fn random_case(r: &mut Rng, budget: i64) -> Case {
+    if r.pct(5) {
+        return Case::Cost(costs::random(r));
+    }
     let term = if r.pct(25) {
         // many broken rules
         let (depth, is_test, size) = (1 + r.below(6) as u32, r.bool(), 2 + r.below(14) as i64);

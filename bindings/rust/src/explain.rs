@@ -141,11 +141,12 @@ impl At<'_> {
             return too_long("the value", self.literal()?);
         };
         match &**pattern {
-            Pattern::Cidr { prefix_len, .. } if *prefix_len > MAX_CIDR_PREFIX => {
-                Some(format!("the CIDR prefix is {}, and {MAX_CIDR_PREFIX} is the limit", count(*prefix_len)))
-            }
             Pattern::Exact(bits) => too_long("the value", bits),
-            Pattern::Cidr { address, .. } => too_long("the CIDR address", address),
+            // The address first: `cost` has no limit on the prefix.
+            Pattern::Cidr { address, prefix_len } => too_long("the CIDR address", address).or_else(|| {
+                (*prefix_len > MAX_CIDR_PREFIX)
+                    .then(|| format!("the CIDR prefix is {}, and {MAX_CIDR_PREFIX} is the limit", count(*prefix_len)))
+            }),
             Pattern::Wildcard { address, mask } => {
                 too_long("the wildcard's address", address).or_else(|| too_long("the wildcard's mask", mask))
             }

@@ -2,7 +2,8 @@ use crate::record::{kind, Record};
 use crate::tree;
 use crate::{bytes, desugar, Core, Field, Refusal, Value};
 
-/// What the value of a range of fields is matched against. Bits are least significant first.
+/// What the value of a range of fields is matched against. Bits are least significant first. [`cost()`](crate::cost()) says how many nodes
+/// the core of a match will have.
 ///
 /// ```
 /// use netkat::{bits, Expr, Pattern, View};

@@ -4,6 +4,8 @@
 //! never null, the elements are there, and the borrow rules keep a slice that is written apart from all others.
 #![allow(unsafe_code)]
 
+use std::ops::Range;
+
 use crate::Refusal;
 
 #[repr(C)]
@@ -37,6 +39,18 @@ extern "C" {
     fn netkat_is_test_fragment(term: *const u8, term_len: usize) -> Answer;
     fn netkat_num_fields(term: *const u8, term_len: usize) -> Answer;
     fn netkat_compute_subrange(alias_start: u32, alias_end: u32, sub_start: u32, sub_end: u32) -> Answer;
+    fn netkat_cost(
+        start: u32,
+        end: u32,
+        pattern: u32,
+        number: u32,
+        a: *const u8,
+        a_len: usize,
+        a_bits: u32,
+        b: *const u8,
+        b_len: usize,
+        b_bits: u32,
+    ) -> Answer;
     fn netkat_version() -> u32;
 }
 
@@ -144,6 +158,15 @@ pub(crate) fn num_fields(term: &[u8]) -> Values {
 pub(crate) fn compute_subrange(alias_start: u32, alias_end: u32, sub_start: u32, sub_end: u32) -> Values {
     // SAFETY: the function takes and gives numbers only.
     unsafe { netkat_compute_subrange(alias_start, alias_end, sub_start, sub_end) }.values()
+}
+
+/// The number of core nodes. A literal is its bytes and its length in bits.
+pub(crate) fn cost(range: Range<u32>, pattern: u8, number: u32, a: (&[u8], u32), b: (&[u8], u32)) -> Result<u64, Refusal> {
+    let (start, end, pattern) = (range.start, range.end, pattern.into());
+    // SAFETY: each pointer and its length are those of a slice. Both slices are only read.
+    let answer = unsafe { netkat_cost(start, end, pattern, number, a.0.as_ptr(), a.0.len(), a.1, b.0.as_ptr(), b.0.len(), b.1) };
+    let (low, high) = answer.values()?;
+    Ok(u64::from(high) << 32 | u64::from(low))
 }
 
 /// The library's version as one number: major * 65,536 + minor * 256 + patch.

@@ -30,6 +30,7 @@
 //! | terms and cores as text | [`Expr::display`] |
 //! | judging a term without making its core | [`Expr::check`] |
 //! | making the core of a term | [`desugar()`]; with an allowance, [`Desugarer`]; as a boxed tree, [`desugar_to_expr`] |
+//! | what a pattern will draw on the allowance | [`cost()`] |
 //! | what the core is | [`Core`], [`Node`], [`View`] |
 //! | why there is no answer | [`Refusal`], [`Refusal::explain`] |
 //! | how large a policy can be, and what to do with more | [`limits`] |
@@ -45,6 +46,7 @@ mod addresses;
 pub mod bytes;
 mod combine;
 mod cores;
+mod cost;
 mod debug;
 mod desugarer;
 mod display;
@@ -71,6 +73,7 @@ use std::ops::Range;
 
 pub use addresses::{bits_of_ipv4, bits_of_ipv6, ParsePatternError};
 pub use cores::{Core, CoreRecord};
+pub use cost::cost;
 pub use desugarer::{desugar, desugar_to_expr, release_memory, Desugared, DesugaredBytes, Desugarer};
 pub use display::ExprDisplay;
 pub use expr::{Exp, Expr, Pattern};

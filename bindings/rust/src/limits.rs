@@ -18,7 +18,7 @@
 //! A union of rules that is built one by one gets a level for each, and 256 levels are soon used up.
 //! [`Expr::union_all`](crate::Expr::union_all) builds it balanced, and the limit on expressions is the next to be met: a rule `dst ~ 10.1.0.0/16 ;
 //! x32 := 1` has three, the union one more, so that a policy has room for about a thousand; one with source, destination and port has seven. Where rules
-//! have ranges, the allowance may be spent before.
+//! have ranges, the allowance may be spent before: [`cost()`](crate::cost()) says what a pattern will draw.
 //!
 //! # Thousands of rules
 //!
@@ -109,3 +109,6 @@ pub const MAX_CIDR_PREFIX: usize = 255;
 /// The most fields that a range pattern can be matched against, fewer than a literal may have bits. Of a longer field a part can be
 /// matched: where the fields 0 to 191 hold six words, the first word is x[160..192].
 pub const MAX_RANGE_PATTERN_FIELDS: usize = 128;
+
+/// The most core nodes of a match with a range pattern, as [`cost()`](crate::cost()) counts them: about half of the greatest allowance.
+pub const MAX_RANGE_PATTERN_COST: u64 = 33_529;

@@ -276,18 +276,24 @@ fn nonzero<T: Default + PartialEq>(value: T) -> Result<T, u32> {
 fn write_literal(bits: &[bool], out: &mut Vec<u8>) {
     let mut packed = [0; 1 + MAX_LITERAL_BITS / 8];
     packed[0] = bits.len() as u8;
-    let chunks = bits.chunks_exact(8);
-    let rest = chunks.remainder();
-    for (byte, chunk) in packed[1..].iter_mut().zip(chunks) {
-        *byte = pack(chunk.try_into().expect("a chunk of eight"));
-    }
-    if !rest.is_empty() {
-        packed[1 + bits.len() / 8] = rest.iter().rev().fold(0, |byte, bit| byte << 1 | u8::from(*bit));
-    }
+    pack_literal(bits, &mut packed[1..]);
     // A copy of a fixed length takes no call.
     let end = out.len() + 1 + bits.len().div_ceil(8);
     out.extend_from_slice(&packed);
     out.truncate(end);
+}
+
+/// The bits of a literal, eight to a byte, in the front of `bytes`, which has room for them. The spare bits of the last byte are zero.
+#[inline(always)]
+pub(crate) fn pack_literal(bits: &[bool], bytes: &mut [u8]) {
+    let chunks = bits.chunks_exact(8);
+    let rest = chunks.remainder();
+    for (byte, chunk) in bytes.iter_mut().zip(chunks) {
+        *byte = pack(chunk.try_into().expect("a chunk of eight"));
+    }
+    if !rest.is_empty() {
+        bytes[bits.len() / 8] = rest.iter().rev().fold(0, |byte, bit| byte << 1 | u8::from(*bit));
+    }
 }
 
 /// Eight bits as a byte, the first one lowest.

@@ -8,8 +8,9 @@ use crate::literal::grouped;
 /// Why there is no answer: a number of the requirement, and a place.
 ///
 /// Numbers are 1 to 28 and 31 to 38. The place of 1 to 7 and of 11 to 25 is the index of a record in the term, from 0 in written
-/// order; that of 8 is the number of records; that of 31 to 38 counts in the replacement; that of 9, 10 and 26 to 28 is 0. A
-/// record has the same index in [`Expr::nodes`](crate::Expr::nodes), so that the part of the policy can be shown:
+/// order; that of 8 is the number of records; that of 31 to 38 counts in the replacement; that of 9, 10 and 26 to 28 is 0, and so is
+/// each of [`cost()`](crate::cost()). A record has the same index in [`Expr::nodes`](crate::Expr::nodes), so that the part of the policy
+/// can be shown:
 ///
 /// ```
 /// use netkat::{Expr, RefusalKind};

@@ -1,8 +1,8 @@
 -- The records of a range of values, and how many they are.
 use mathlib.Core.Path.{_∙_, _≡_, ap, refl, sym}
-use mathlib.Core.Bool.{Bool, Bool·beq, cond, false, true}
+use mathlib.Core.Bool.{Bool, cond, false, true}
 use mathlib.Core.List.{List, [], _∷_}
-use Prim.Native.Nat.{_*_, _+_, _^_, _≤_, suc, ℕ}
+use Prim.Native.Nat.{_*_, _+_, _^_, _≤_, ℕ}
 use native.Mathlib.Omega.{arith}
 use borrow.Author.Tests.{ltb-true, ne-eqb}
 use lib.Dec.{eqb, ltb}
@@ -14,7 +14,8 @@ use Rattle.literals.specs.Bits.{Bits, valueOf}
 use Rattle.literals.specs.Comparing.{orderOf}
 use Rattle.literals.specs.declared.Order.the-variants.{Above, Below, Equal}
 use Rattle.expr.specs.Terms.{Core, Intersect, Test, size, two}
-use Rattle.desugar.specs.LeafWords.{betweenCaseSize, betweenSize, boundSize, differencesSize, stretch}
+use Rattle.desugar.specs.Costs.{betweenCaseSize, betweenSize}
+use Rattle.desugar.specs.LeafWords.{stretch}
 use Rattle.desugar.specs.Leaves.{between, betweenCase}
 use Rattle.desugar.specs.Memory.{words}
 use Rattle.desugar.proofs.BoundWords.{size-bound}
@@ -33,17 +34,6 @@ size-case false false false s a b = omega (arith, size-bound false s a, size-bou
 pub size-between : (s : ℕ) (a b : Bits) → size (between s a b) ≡ betweenSize a b
 size-between s a b = size-case (eqb (valueOf a) (valueOf b)) (eqb (valueOf a) 0) (eqb (valueOf b + 1) (2 ^ length b)) s a b
 
-differences-most : (d : Bool) (a : Bits) → length a ≤ 128 → differencesSize d a ≤ 256 * length a
-differences-most d [] h = omega arith
-differences-most d (b ∷ a) h = go (Bool·beq b d) (differences-most d a (omega arith))
-  where
-    go : (x : Bool) → differencesSize d a ≤ 256 * length a → differencesSize d a + cond x (2 * length a + 2) 0 ≤ 256 * suc (length a)
-    go true t = omega arith
-    go false t = omega arith
-
-pub bound-most : (d : Bool) (a : Bits) (w : ℕ) → w ≤ 128 → boundSize d (stretch a 0 w) ≤ 2 ^ 16
-bound-most d a w h = let l = length-stretch a 0 w in omega (arith, differences-most d (stretch a 0 w) (omega arith))
-
 -- ## Which case it is
 
 pub order-equal : (x y : ℕ) → isEqual (orderOf x y) ≡ eqb x y
@@ -60,6 +50,16 @@ short n w a h = omega (arith, length-take n a)
 -- padding leaves the values as they are
 value-of-stretch : (n w : ℕ) (a : Bits) → n ≤ w → valueOf (stretch (take n a) 0 w) ≡ valueOf (take n a)
 value-of-stretch n w a h = ap valueOf (stretch-pad (take n a) w (short n w a h)) ∙ value-of-pad w (take n a)
+
+-- the size by whether the bounds are equal
+pub between-size-by : (m n w : ℕ) (a b : Bits) → m ≤ w → n ≤ w → {x : Bool} → x ≡ eqb (valueOf (take m a)) (valueOf (take n b))
+    → betweenCaseSize x (eqb (valueOf (stretch (take m a) 0 w)) 0) (eqb (valueOf (stretch (take n b) 0 w) + 1) (2 ^ length (stretch (take n b) 0 w))) (stretch (take m a) 0 w) (stretch (take n b) 0 w)
+    ≡ betweenSize (stretch (take m a) 0 w) (stretch (take n b) 0 w)
+between-size-by m n w a b h k same =
+    let lower : Bits = stretch (take m a) 0 w in
+    let upper : Bits = stretch (take n b) 0 w in
+    let values : _ ≡ eqb (valueOf lower) (valueOf upper) = same ∙ λ i. eqb (sym (value-of-stretch m w a h) i) (sym (value-of-stretch n w b k) i) in
+    λ i. betweenCaseSize (values i) (eqb (valueOf lower) 0) (eqb (valueOf upper + 1) (2 ^ length upper)) lower upper
 
 -- the three tests of a range of values from that of the bits a, of which there are m, to that of the bits b, of which there are n
 module _ (m n w : ℕ) (a b : Bits) (h : m ≤ w) (k : n ≤ w) {x low high : Bool}

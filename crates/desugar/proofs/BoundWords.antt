@@ -10,7 +10,8 @@ use lib.ListN.{getD, length, length-append}
 use lib.Seq.{length-sets, sets}
 use Rattle.literals.specs.Bits.{Bits, bit}
 use Rattle.expr.specs.Terms.{Core, Intersect, One, Test, Union, Zero, leaf, size}
-use Rattle.desugar.specs.LeafWords.{Differs, Ready, boundSize, chainSize, difference, differenceSize, differencesSize, linked, stretch, term, tops}
+use Rattle.desugar.specs.Costs.{boundSize, chainSize, differencesSize}
+use Rattle.desugar.specs.LeafWords.{Differs, Ready, difference, differenceSize, linked, stretch, term, tops}
 use Rattle.desugar.specs.Leaves.{bound, chain, differences, highFirst}
 use Rattle.desugar.specs.Memory.{words, sizeAll, Holds, Kept}
 use Rattle.desugar.specs.declared.leaves.Progress.{Progress}
@@ -109,13 +110,6 @@ size-whole d a w {p} e =
 pub size-below : (d : Bool) (a : Bits) (w p : ℕ) → p ≤ w → differencesSize d (stretch a p (w - p)) ≤ differencesSize d (stretch a 0 w)
 size-below d a w zero h = rw (sub-zero w) (omega arith)
 size-below d a w (suc p) h = omega (arith, size-more d a w {p = p} refl h, size-below d a w p (omega arith))
-
-pub size-most : (d : Bool) (a : Bits) (w p : ℕ) → differenceSize d a w p ≤ 2 * (w - p)
-size-most d a w p = go (Bool·beq (getD a p false) d)
-  where
-    go : (x : Bool) → cond x (2 * (w - p)) 0 ≤ 2 * (w - p)
-    go true = omega arith
-    go false = omega arith
 
 -- ## Writing
 

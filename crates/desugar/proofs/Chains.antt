@@ -11,7 +11,8 @@ use lib.Seq.{drop-cons, sets}
 use Rattle.literals.proofs.Bits.{length-pad}
 use Rattle.literals.specs.Bits.{Bits, bit, pad}
 use Rattle.expr.specs.Terms.{Atom, Core, One, Op2, leaf, op2Kind, size}
-use Rattle.desugar.specs.LeafWords.{Kinds, chainSize, linked, stretch}
+use Rattle.desugar.specs.Costs.{chainSize}
+use Rattle.desugar.specs.LeafWords.{Kinds, linked, stretch}
 use Rattle.desugar.specs.Leaves.{chain, eachBit}
 use Rattle.desugar.specs.Memory.{sizeAll, words}
 use Rattle.desugar.proofs.Regions.{size-pos, length-words, sets-append}

@@ -17,8 +17,10 @@ pub mod Frames
 pub mod Chains
 pub mod BoundWords
 pub mod Masked
+pub mod StandingBits
 pub mod BetweenWords
 pub mod UseCores
+pub mod Costs
 pub mod RuleLaws
 pub mod LeafKinds
 pub mod RangedCores

@@ -10,7 +10,8 @@ use lib.ListN.{getD, length}
 use lib.Seq.{sets}
 use Rattle.literals.specs.Bits.{Bits, bit}
 use Rattle.expr.specs.Terms.{Core, Intersect, One, Test, leaf, size}
-use Rattle.desugar.specs.LeafWords.{Tested, chainSize, clear, linked, stretch, tested, trim}
+use Rattle.desugar.specs.Costs.{chainSize, clear}
+use Rattle.desugar.specs.LeafWords.{Tested, linked, stretch, tested, trim}
 use Rattle.desugar.specs.Leaves.{chain, maskedTests}
 use Rattle.desugar.specs.Memory.{words, sizeAll}
 use Rattle.desugar.proofs.Chains.{length-linked, length-stretch, link-last, linked-append, size-chain, stretch-more, suc-shift}

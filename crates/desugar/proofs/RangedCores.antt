@@ -14,7 +14,8 @@ use Rattle.expr.specs.Form.{patternOf}
 use Rattle.expr.specs.declared.records.Head.{Head}
 use Rattle.desugar.specs.Rules.{patternRule, useRule}
 use Rattle.desugar.specs.Leaves.{between, chain, eachBit, maskedTests, useCore}
-use Rattle.desugar.specs.LeafWords.{betweenSize, chainSize, clear, stretch}
+use Rattle.desugar.specs.Costs.{betweenSize, chainSize, clear}
+use Rattle.desugar.specs.LeafWords.{stretch}
 use Rattle.desugar.specs.Memory.{words}
 use Rattle.desugar.specs.WalkWords.{useOf, whereOf}
 use Rattle.desugar.specs.RangedWords.{RangeKept, UseKept, recordWith}

@@ -6,7 +6,8 @@ use lib.ListN.{length}
 use Rattle.literals.specs.Bits.{Bits}
 use Rattle.literals.specs.Patterns.{Cidr, Exact, IpRange, Wildcard}
 use Rattle.expr.specs.Terms.{Assign, Assigns, Core, Intersect, Matches, One, Sequence, Test, Tests, size}
-use Rattle.desugar.specs.LeafWords.{betweenSize, chainSize, clear, stretch}
+use Rattle.desugar.specs.Costs.{betweenSize, chainSize, clear}
+use Rattle.desugar.specs.LeafWords.{stretch}
 use Rattle.desugar.specs.Leaves.{assignChain, between, chain, eachBit, maskedTests, testChain, useCore}
 use Rattle.desugar.proofs.BetweenWords.{size-between}
 use Rattle.desugar.proofs.Chains.{length-stretch, size-each-bit, stretch-pad, stretch-rest, stretch-whole}

@@ -1,9 +1,9 @@
 -- What the theorems claim of desugaring: the allowance as a threshold, and what a core does to a range (document 01, "Walking rules" and
 -- "Packet meaning"; the theorems stand in netkat/proofs/Theorems.antt).
-use mathlib.Core.{Path._≡_, Logic._⊎_, Logic._↔_, List.List, List._++_}
+use mathlib.Core.{Path._≡_, Logic._⊎_, Logic._↔_, List.List, List.[], List._++_}
 use Prim.Native.Nat.{ℕ, _+_, _-_, _^_, _≤_, _<_}
-use Rattle.expr.specs.{Answers.mapAnswer, Answers.ok, Answers.refuse, Terms.Core, Terms.Expr}
-use Rattle.desugar.specs.{Bindings.Env, Meter.left, Meter.spent, Meter.drawn, Meter.overdrawn, Desugar.desugar, Packets.Others, Packets.Packet, Packets.coreMeans, Packets.fieldValue, Packets.withRange}
+use Rattle.expr.specs.{Answers.Answer, Answers.mapAnswer, Answers.ok, Answers.refuse, Terms.Core, Terms.Expr}
+use Rattle.desugar.specs.{Bindings.Env, Meter.left, Meter.spent, Meter.drawn, Meter.overdrawn, Desugar.desugar, Desugar.drawnOf, Packets.Others, Packets.Packet, Packets.coreMeans, Packets.fieldValue, Packets.withRange}
 
 -- ## The allowance
 
@@ -16,6 +16,10 @@ pub record Limit (env : Env Core) (e : Expr) (at : ℕ) (ds : List (ℕ × ℕ))
   pub enough : (n : ℕ) (k : List (ℕ × ℕ)) → drawn ds ≤ n
       → mapAnswer (λ r. r .0) (desugar env e at (left n)) ≡ mapAnswer (λ r. r .0) (desugar env e at (spent k))
   pub short : (n : ℕ) → n < drawn ds → desugar env e at (left n) ≡ refuse 24 (overdrawn n ds)
+
+-- the sum of a term's draws without limit, or its refusal
+abbrev pub drawnTotal : Env Core → Expr → ℕ → Answer ℕ
+drawnTotal env e at = mapAnswer (λ r. drawnOf 0 (r .1)) (desugar env e at (spent []))
 
 -- ## Ranges
 

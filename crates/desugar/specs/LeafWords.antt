@@ -1,11 +1,11 @@
--- How many records the cores of ranges have, and in what order they are written to work memory: the words of the contracts of
--- src/leaves.rt, src/masks.rt and src/between.rt.
+-- In what order the records of a range's core are written to work memory: the words of the contracts of src/leaves.rt, src/masks.rt and
+-- src/between.rt. How many they are stands in Costs.
 use mathlib.Core.{Path._≡_, Bool.Bool, Bool.true, Bool.false, Bool.cond, Bool.not, Bool.Bool·beq, List.List, List.[], List._∷_, List._++_}
 use Prim.Native.Nat.{ℕ, zero, suc, _+_, _-_, _*_, _^_, _≤_, _<_}
-use lib.{Dec.eqb, ListN.length, ListN.getD, Seq.sets}
-use Rattle.literals.specs.{Bits.Bits, Bits.bit, Bits.valueOf}
+use lib.{ListN.length, ListN.getD, Seq.sets}
+use Rattle.literals.specs.{Bits.Bits, Bits.bit}
 use Rattle.expr.specs.{Terms.Atom, Terms.Op2, Terms.Core, Terms.leaf, Terms.op2Kind, Terms.One, Terms.Test, Terms.Intersect, Terms.Union}
-use Rattle.desugar.specs.{Leaves.chain, Leaves.highFirst, Memory.Holds, Memory.words, Rules.maxRangeBits, declared.leaves.Progress.Progress}
+use Rattle.desugar.specs.{Leaves.chain, Leaves.highFirst, Costs.chainSize, Costs.differencesSize, Memory.Holds, Memory.words, Rules.maxRangeBits, declared.leaves.Progress.Progress, declared.standing.Standing.Standing}
 
 -- n bits of a literal, from index i on: false beyond its last
 abbrev pub stretch : Bits → ℕ → ℕ → Bits
@@ -16,10 +16,6 @@ stretch a i (suc n) = getD a i false ∷ stretch a (suc i) n
 abbrev pub linked : Op2 → List Core → List ℕ
 linked o [] = []
 linked o (c ∷ cs) = op2Kind o ∷ 0 ∷ 0 ∷ (words c ++ linked o cs)
-
--- how many records a chain of n atoms has; one where there is no atom
-abbrev pub chainSize : ℕ → ℕ
-chainSize n = 1 + 2 * (n - 1)
 
 -- the kinds of an operator and of an atom with a field and a bit
 pub record Kinds (operator atom : ℕ) (o : Op2) (f : ℕ → Bool → Atom) : Type 0 where
@@ -50,14 +46,15 @@ difference d s a w p = cond (Bool·beq (getD a p false) d) (term s a w p (not d)
 abbrev pub differenceSize : Bool → Bits → ℕ → ℕ → ℕ
 differenceSize d a w p = cond (Bool·beq (getD a p false) d) (2 * (w - p)) 0
 
--- the terms of all bits that are d, each with an operator: 2k + 2 records with k bits above
-abbrev pub differencesSize : Bool → Bits → ℕ
-differencesSize d [] = 0
-differencesSize d (b ∷ a) = differencesSize d a + cond (Bool·beq b d) (2 * length a + 2) 0
+-- how many bits stand
+abbrev pub ones : Bits → ℕ
+ones [] = 0
+ones (b ∷ a) = bit b + ones a
 
--- how many records a bound's core has
-abbrev pub boundSize : Bool → Bits → ℕ
-boundSize d a = differencesSize d a + chainSize (length a)
+-- the bits of a bound that stand were counted: how many they are, and how many records their terms have
+pub record Stands (a : Bits) (s : Standing) : Type 0 where
+  pub count : s .count ≡ ones a
+  pub size : s .size ≡ differencesSize true a
 
 -- the numbers xs have room for n records from index at on, and the fields and bits of a bound can be counted
 pub record BoundRoom (xs : List ℕ) (at n start width : ℕ) : Type 0 where
@@ -81,11 +78,6 @@ pub record Differs (d : Bool) (s : ℕ) (a : Bits) (w p : ℕ) (xs : List ℕ) (
 
 -- ## Masks
 
--- how many bits of a mask are false
-abbrev pub clear : Bits → ℕ
-clear [] = 0
-clear (b ∷ m) = cond b 0 1 + clear m
-
 -- the lowest w bits of a mask, up to the highest that is false: how many these are
 abbrev pub trim : Bits → ℕ → ℕ
 trim m zero = 0
@@ -105,17 +97,7 @@ pub record Tested (s : ℕ) (a m : Bits) (i : ℕ) (xs : List ℕ) (at : ℕ) (x
   pub written : xs′ ≡ sets xs at (linked Intersect (tested s a m i))
   pub next : r ≡ at + 6 * cond (getD m i false) 0 1
 
--- ## Ranges of values: how many records the core of `between` has
-
-abbrev pub betweenCaseSize : Bool → Bool → Bool → Bits → Bits → ℕ
-betweenCaseSize true low high a b = chainSize (length a)
-betweenCaseSize false true true a b = 1
-betweenCaseSize false true false a b = boundSize true b
-betweenCaseSize false false true a b = boundSize false a
-betweenCaseSize false false false a b = 1 + boundSize false a + boundSize true b
-
-abbrev pub betweenSize : Bits → Bits → ℕ
-betweenSize a b = betweenCaseSize (eqb (valueOf a) (valueOf b)) (eqb (valueOf a) 0) (eqb (valueOf b + 1) (2 ^ length b)) a b
+-- ## Ranges of values
 
 -- the bounds' bits and the range's width
 pub record Widths (low high width : ℕ) : Type 0 where

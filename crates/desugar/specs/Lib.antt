@@ -5,6 +5,7 @@ pub mod Rules
 pub mod Leaves
 pub mod Negation
 pub mod Desugar
+pub mod Costs
 pub mod Packets
 pub mod Claims
 pub mod Probes

@@ -1,15 +1,20 @@
 // The core of an IpRange: the values from one literal to another, both padded to the range's width.
 ghost use mathlib.Core.Path.{_≡_};
 ghost use mathlib.Core.Bool.{true, false};
-ghost use Prim.Native.Nat.{_+_};
+ghost use Prim.Native.Nat.{_+_, _^_, _≤_, _<_};
 ghost use lib.Dec.{eqb};
-ghost use lib.ListN.{take};
+ghost use lib.ListN.{length, take};
 ghost use lib.Seq.{sets};
-ghost use Rattle.literals.specs.Bits.{unpack, valueOf};
+ghost use Rattle.literals.specs.Bits.{Bits, unpack, valueOf};
 ghost use Rattle.expr.specs.Terms.{Intersect, two};
 ghost use Rattle.desugar.specs.Leaves.{between, bound};
 ghost use Rattle.desugar.specs.Memory.{words};
-ghost use Rattle.desugar.specs.LeafWords.{RangeRoom, Widths, betweenSize, boundSize, stretch};
+ghost use Rattle.desugar.specs.Costs.{betweenCaseSize, betweenSize, boundSize};
+ghost use Rattle.desugar.specs.Rules.{maxRangeBits};
+ghost use Rattle.desugar.specs.LeafWords.{RangeRoom, Stands, Widths, stretch};
+use crate::leaves::size_by;
+use crate::standing::Standing;
+use crate::standing::standing_padded;
 use literals::Order;
 
 // Whether two literals have one value.
@@ -25,6 +30,27 @@ fn same_value(low: &[u8], low_bits: usize, high: &[u8], high_bits: usize, width:
     }
 }
 
+// How many records the core of a range of values has whose bounds are not equal: of a lower bound in which no bit stands, and of an upper
+// bound in which all do, there is no term.
+fn bounds_size(lower: Standing, upper: Standing, width: usize) -> u64
+    requires { ⌜ ((a : Bits) × (length a ≡ width) × Stands a lower) × ((b : Bits) × (length b ≡ width) × Stands b upper) × (0 < width) × (width ≤ maxRangeBits) ⌝ }
+    ensures { λ r. ⌜ ((a b : Bits) → length a ≡ width → Stands a lower → length b ≡ width → Stands b upper
+        → r ≡ betweenCaseSize false (eqb (valueOf a) 0) (eqb (valueOf b + 1) (2 ^ length b)) a b) ⌝ }
+{
+    let w = width as u64;
+    if lower.count == 0 {
+        if upper.count == w {
+            return 1;
+        }
+        return size_by(upper, width, true);
+    }
+    let size = size_by(lower, width, false);
+    if upper.count == w {
+        return size;
+    }
+    1 + size + size_by(upper, width, true)
+}
+
 // How many records the core of a range of values has.
 pub fn range_size(low: &[u8], low_bits: usize, high: &[u8], high_bits: usize, width: usize) -> u64
     requires { ⌜ Widths «low_bits» «high_bits» width ⌝ }
@@ -33,19 +59,9 @@ pub fn range_size(low: &[u8], low_bits: usize, high: &[u8], high_bits: usize, wi
     if same_value(low, low_bits, high, high_bits, width) {
         return crate::leaves::chain_size(width as u64);
     }
-    let from_zero = literals::is_zero(low, low_bits);
-    let to_highest = literals::is_highest(high, high_bits, width);
-    if from_zero {
-        if to_highest {
-            return 1;
-        }
-        return crate::leaves::bound_size(high, high_bits, width, true);
-    }
-    let lower = crate::leaves::bound_size(low, low_bits, width, false);
-    if to_highest {
-        return lower;
-    }
-    1 + lower + crate::leaves::bound_size(high, high_bits, width, true)
+    let lower = standing_padded(low, low_bits, width);
+    let upper = standing_padded(high, high_bits, width);
+    bounds_size(lower, upper, width)
 }
 
 // Both bounds.

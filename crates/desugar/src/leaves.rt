@@ -5,13 +5,15 @@ ghost use mathlib.Core.List.{[], _∷_};
 ghost use Prim.Native.Nat.{ℕ, _+_, _-_, _*_, _^_, _≤_, _<_};
 ghost use lib.ListN.{length, take};
 ghost use lib.Seq.{sets};
-ghost use Rattle.literals.specs.Bits.{bit, unpack};
+ghost use Rattle.literals.specs.Bits.{Bits, bit, unpack};
 ghost use Rattle.expr.specs.Terms.{Atom, One, Op2};
 ghost use Rattle.desugar.specs.Leaves.{bound, chain, eachBit};
 ghost use Rattle.desugar.specs.Rules.{maxRangeBits};
 ghost use Rattle.desugar.specs.Memory.{words};
-ghost use Rattle.desugar.specs.LeafWords.{Kinds, ChainRoom, BoundRoom, Ready, Differs, chainSize, boundSize, differenceSize, stretch, term};
+ghost use Rattle.desugar.specs.Costs.{chainSize, boundSize};
+ghost use Rattle.desugar.specs.LeafWords.{Kinds, ChainRoom, BoundRoom, Ready, Differs, Stands, differenceSize, stretch, term};
 use crate::memory::write_record;
+use crate::standing::Standing;
 
 // How many records a chain of atoms has.
 pub fn chain_size(atoms: u64) -> u64
@@ -168,27 +170,26 @@ pub fn write_bound(
     write_term(work, progress, start, bytes, bits, width, 0, b);
 }
 
-// How many records the term of bit i of a bound has, with the operator before it.
-fn difference_size(bytes: &[u8], bits: usize, width: usize, i: usize, upper: bool) -> u64
-    requires { ⌜ (i < width) × (width ≤ maxRangeBits) ⌝ }
-    ensures { λ r. ⌜ r ≡ differenceSize upper (take bits (unpack (now (bytes .entry)))) width i ⌝ }
+// How many records a bound's core has, by its bits that stand: the terms of those, or of the others.
+pub(crate) fn size_by(standing: Standing, width: usize, upper: bool) -> u64
+    requires { ⌜ ((a : Bits) × (length a ≡ width) × Stands a standing) × (0 < width) × (width ≤ maxRangeBits) ⌝ }
+    ensures { λ r. ⌜ ((a : Bits) → length a ≡ width → Stands a standing → r ≡ boundSize upper a) ⌝ }
 {
-    if literals::literal_bit(bytes, bits, i) != upper {
-        return 0;
+    let w = width as u64;
+    if upper {
+        return 2 * w - 1 + standing.size;
     }
-    2 * (width - i) as u64
+    2 * w - 1 + (w * (w + 1) - standing.size)
 }
 
 // How many records a bound's core has.
 pub fn bound_size(bytes: &[u8], bits: usize, width: usize, upper: bool) -> u64
-    requires { ⌜ (0 < width) × (width ≤ maxRangeBits) ⌝ }
+    requires { ⌜ (bits ≤ width) × (0 < width) × (width ≤ maxRangeBits) ⌝ }
     ensures { λ r. ⌜ r ≡ boundSize upper (stretch (take bits (unpack (now (bytes .entry)))) 0 width) ⌝ }
 {
-    let mut size = 2 * width as u64 - 1;
-    let mut p = width;
-    while 0 < p {
-        p -= 1;
-        size += difference_size(bytes, bits, width, p, upper);
-    }
-    size
+    size_by(
+        crate::standing::standing_padded(bytes, bits, width),
+        width,
+        upper,
+    )
 }

@@ -8,7 +8,8 @@ ghost use Rattle.literals.specs.Bits.{unpack};
 ghost use Rattle.expr.specs.Terms.{Intersect, One};
 ghost use Rattle.desugar.specs.Leaves.{chain, maskedTests};
 ghost use Rattle.desugar.specs.Memory.{words};
-ghost use Rattle.desugar.specs.LeafWords.{RangeRoom, Tested, chainSize, clear, stretch, trim};
+ghost use Rattle.desugar.specs.Costs.{chainSize, clear};
+ghost use Rattle.desugar.specs.LeafWords.{RangeRoom, Tested, stretch, trim};
 
 // 1 where a bit of a mask is false.
 fn clear_at(mask: &[u8], bits: usize, i: usize) -> usize

@@ -13,7 +13,8 @@ ghost use Rattle.desugar.specs.Meter.{left};
 ghost use Rattle.desugar.specs.Leaves.{between, useCore};
 ghost use Rattle.desugar.specs.Desugar.{desugar};
 ghost use Rattle.desugar.specs.Memory.{words};
-ghost use Rattle.desugar.specs.LeafWords.{RangeRoom, betweenSize, stretch};
+ghost use Rattle.desugar.specs.Costs.{betweenSize};
+ghost use Rattle.desugar.specs.LeafWords.{RangeRoom, stretch};
 ghost use Rattle.desugar.specs.BindingWords.{AnyBound, Bound, aliasRange};
 ghost use Rattle.desugar.specs.WalkWords.{LeafReady, WalkedAs, whereOf, useOf};
 ghost use Rattle.desugar.specs.RangedWords.{Bounds, PatternKept, UseKept, UseRoom, DrawRoom, RangeKept, RangeReady, recordWith, useDrawn, judgedRange, judgedAnswer};
@@ -58,7 +59,7 @@ fn pattern_size(head: Head, a: &[u8], b: &[u8], n: usize) -> u64
 }
 
 // How many records the core of a use of n fields has.
-fn use_size(head: Head, a: &[u8], b: &[u8], n: usize) -> u64
+pub fn use_size(head: Head, a: &[u8], b: &[u8], n: usize) -> u64
     requires { ⌜ UseKept (now a) (now b) head n ⌝ }
     ensures { λ r. ⌜ ((start : ℕ) → r ≡ size (useCore (useOf (recordWith (now (a .entry)) (now (b .entry)) head)) start n)) ⌝ }
 {

@@ -95,7 +95,7 @@ fn pattern_rule(head: Head, a: &[u8], b: &[u8], n: usize) -> u8
 }
 
 // 14 first, then the rules on the literal or the pattern: the use of the fields from `start` up to `end`.
-pub(crate) fn range_rule(head: Head, a: &[u8], b: &[u8], start: u32, end: u32) -> u8
+pub fn range_rule(head: Head, a: &[u8], b: &[u8], start: u32, end: u32) -> u8
     requires { ⌜ Literals (now a) (now b) head ⌝ }
     ensures { λ r. ⌜ ((at : ℕ) → ruleAnswer r at ≡ rangeRule (whereOf (recordWith (now (a .entry)) (now (b .entry)) head)) (useOf (recordWith (now (a .entry)) (now (b .entry)) head)) («start», «end») at) ⌝ }
 {

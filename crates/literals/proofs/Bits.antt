@@ -66,7 +66,7 @@ pub length-bits : (n v : ℕ) → length (bitsOf n v) ≡ n
 length-bits zero v = refl
 length-bits (suc n) v = ap suc (length-bits n (v / 2))
 
-bit-of-odd : (v : ℕ) → bit (eqb (v % 2) 1) ≡ v % 2
+pub bit-of-odd : (v : ℕ) → bit (eqb (v % 2) 1) ≡ v % 2
 bit-of-odd v = go (v % 2) (omega arith)
   where
     go : (r : ℕ) → r < 2 → bit (eqb r 1) ≡ r

@@ -5,15 +5,16 @@ use mathlib.Core.List.{List, [], _∷_}
 use Prim.Native.Nat.{ℕ, zero, suc, _+_, _-_, _*_, _/_, _^_, _≤_, _<_}
 use native.Mathlib.Nat.{pow-succ'}
 use native.Mathlib.Numerals.{add-one}
+use native.Mathlib.Decide.{decLt}
 use native.Mathlib.Omega.{arith}
 use borrow.Author.Tests.{eq-eqb, ne-eqb, le-leb, lt-leb}
 use lib.Dec.{eqb}
 use lib.ListN.{length, getD, take, drop, drop-of-length-le, length-take, length-drop, List·getD-eq-default}
 use lib.Seq.{take-all, drop-cons, drop-drop, length-take-le, getD-take, getD-drop}
 use Rattle.literals.specs.Bits.{Bits, bit, valueOf, bitsOf, unpack}
-use Rattle.literals.specs.Reading.{got, fault, goOn, give, ask, maxLiteral, bytesFor, allFalse, literal}
+use Rattle.literals.specs.Reading.{got, fault, goOn, give, ask, maxLiteral, bytesFor, allFalse, literal, lent}
 use Rattle.literals.proofs.Bits.{value-within, value-of-bits}
-use Rattle.literals.proofs.Bytes.{value-of-drop, take-unpack, drop-unpack}
+use Rattle.literals.proofs.Bytes.{value-of-drop, length-unpack, take-unpack, drop-unpack}
 use Rattle.literals.proofs.Codec.{chunk-take, chunk-lacks}
 
 -- ## Bits
@@ -161,3 +162,41 @@ module _ (s : List ℕ) (at : ℕ) (h : at < length s) where
         read-got p =
             let e : spareAt s at ≡ 0 = omega arith in
             asked ∙ rw (eq-eqb (spareAt s at) 0 e, drop-drop (sizeAt s at) (at + 1) s)
+
+-- ## A literal that is lent
+
+module _ (s : List ℕ) (n : ℕ) where
+  pub lent-long : maxLiteral < n → lent n s ≡ fault 5
+  lent-long h = rw (lt-leb n maxLiteral h) refl
+
+  pub lent-lacking : n ≤ maxLiteral → length s < bytesFor n → lent n s ≡ fault 1
+  lent-lacking h k = rw (le-leb n maxLiteral h, chunk-lacks (bytesFor n) s k) refl
+
+  pub lent-got : n ≤ maxLiteral → bytesFor n ≤ length s → lent n s ≡ got (take n (unpack s)) (drop (bytesFor n) s)
+  lent-got h k =
+      rw (le-leb n maxLiteral h, chunk-take (bytesFor n) s k)
+      (ap (λ (a : Bits). got a (drop (bytesFor n) s)) (take-unpack n (bytesFor n) s (omega arith) k))
+
+  -- one that is not refused has all its bits
+  pub lent-whole : {a : Bits} {bs : List ℕ} → lent n s ≡ got a bs → length (take n (unpack s)) ≡ n
+  lent-whole {a} {bs} e = go (decLt maxLiteral n) (decLt (length s) (bytesFor n))
+    where
+      refused : (r : ℕ) → lent n s ≡ fault r → ⊥
+      refused r k = let z : _≡_ {A = ℕ} 0 1 = cc in omega arith
+
+      go : Dec (maxLiteral < n) → Dec (length s < bytesFor n) → length (take n (unpack s)) ≡ n
+      go (yes h) d = absurd (refused 5 (lent-long h))
+      go (no h) (yes k) = absurd (refused 1 (lent-lacking (omega (arith, h)) k))
+      go (no h) (no k) = length-take-le n (unpack s) (omega (arith, length-unpack s, k))
+
+  -- and no refusal has the number 0
+  pub lent-named : {r : ℕ} → lent n s ≡ fault r → 1 ≤ r
+  lent-named {r} e = go (decLt maxLiteral n) (decLt (length s) (bytesFor n))
+    where
+      number : (q : ℕ) → lent n s ≡ fault q → q ≡ r
+      number q k = cc
+
+      go : Dec (maxLiteral < n) → Dec (length s < bytesFor n) → 1 ≤ r
+      go (yes h) d = omega (arith, number 5 (lent-long h))
+      go (no h) (yes k) = omega (arith, number 1 (lent-lacking (omega (arith, h)) k))
+      go (no h) (no k) = let f = lent-got (omega (arith, h)) (omega (arith, k)) in let z : _≡_ {A = ℕ} 0 1 = cc in absurd (omega arith)

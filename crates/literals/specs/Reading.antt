@@ -66,6 +66,10 @@ literal =
     ask (allFalse (drop n (unpack bs))) 4 >>= λ _.
     give (take n (unpack bs))
 
+-- a literal of n bits that a host lends, in the front of its bytes: 5 and 1 as above. What stands behind its bits is not looked at
+abbrev pub lent : ℕ → Reads Bits
+lent n = ask (leb n maxLiteral) 5 >>= λ _. chunk (bytesFor n) >>= λ bs. give (take n (unpack bs))
+
 -- "Term bytes": "an absent field is zero or empty". An empty literal is not written
 abbrev pub writeLiteral : Bits → List ℕ
 writeLiteral [] = []

@@ -5,7 +5,8 @@ ghost use Prim.Native.Nat.{_+_, _^_, _≤_};
 ghost use lib.Dec.{eqb};
 ghost use lib.ListN.{length, getD, take};
 ghost use Rattle.literals.specs.Bits.{valueOf, unpack};
-ghost use Rattle.literals.specs.Results.{LiteralFound, ComparedAs};
+ghost use Rattle.literals.specs.Reading.{lent};
+ghost use Rattle.literals.specs.Results.{LiteralFound, ComparedAs, lentAnswer};
 ghost use Rattle.literals.specs.declared.Order.the-variants.{Below, Above};
 
 // The longest literal, in bits.
@@ -90,6 +91,20 @@ pub fn read_literal(s: &[u8], at: usize) -> LiteralRead
         bits,
         next,
     })
+}
+
+// Why the front of some bytes is no literal of so many bits that a host may lend: the refusal's number, or 0 where it is one.
+pub fn lent_refusal(bytes: &[u8], bits: u32) -> u8
+    ensures { λ r. ⌜ lentAnswer (now (bytes .entry)) bits r ≡ lent bits (now (bytes .entry)) ⌝ }
+{
+    let length = bits as usize;
+    if MAX_LITERAL < length {
+        return 5;
+    }
+    if bytes.len() < (length + 7) / 8 {
+        return 1;
+    }
+    0
 }
 
 // Whether a literal's value is 0.

@@ -34,7 +34,7 @@ around : {A : Type 0} (ps qs : List Point) (a : Answer A) {x : Answer (Unit {0})
     → andThen (firstFailure (ps ++ qs)) (λ _. a) ≡ andThen x (λ _. andThen (firstFailure qs) (λ _. a))
 around ps qs a e = first-failure-append ps qs a ∙ ap (λ (y : Answer (Unit {0})). andThen y (λ _. andThen (firstFailure qs) (λ _. a))) e
 
-pub refusal-of : (s : Bool) {r at : ℕ} (x : Answer (Unit {0})) → andThen x (λ _. ok s) ≡ refuse r at → x ≡ refuse r at
+pub refusal-of : {A : Type 0} (s : A) {r at : ℕ} (x : Answer (Unit {0})) → andThen x (λ _. ok s) ≡ refuse r at → x ≡ refuse r at
 refusal-of s (ok t) e = let z : _≡_ {A = ℕ} 0 1 = cc in absurd (omega arith)
 refusal-of s (refuse q p) e = same-refusal e
 

@@ -10,21 +10,26 @@ use native.Mathlib.Omega.{arith}
 use lib.Dec.{leb, ltb}
 use lib.ListN.{length}
 use borrow.Author.Tests.{lt-leb, lt-ltb, ltb-true}
+use Rattle.literals.specs.Patterns.{Pattern}
 use Rattle.literals.proofs.Logic.{and-iff, false-of, leb-is}
 use Rattle.expr.specs.Answers.{Answer, andThen, mapAnswer, need, ok, refuse}
 use Rattle.expr.specs.Form.{decode, encode, encodeCore, maxDepth, maxRecords}
 use Rattle.expr.specs.Operations.{fieldsBytes, fragmentBytes, intoRoom, isTestFragment, numFields, raised, substitute, substituteBytes}
-use Rattle.expr.specs.Terms.{Expr, Name, depth, records}
+use Rattle.expr.specs.Terms.{Direct, Expr, Matches, Name, Ranged, depth, records}
 use Rattle.expr.proofs.Refusals.{decode-numbers}
 use Rattle.desugar.specs.Bindings.{computeSubrange}
 use Rattle.desugar.specs.Claims.{Limit}
+use Rattle.desugar.specs.Costs.{cost, patternCost}
 use Rattle.desugar.specs.Desugar.{desugar, desugarBytes, workFor}
 use Rattle.desugar.specs.Meter.{drawn, left, spent}
 use Rattle.desugar.specs.Negation.{isTest}
+use Rattle.desugar.specs.Rules.{rangeRule}
 use Rattle.desugar.proofs.Limit.{Costs, desugar-costs, drawsOf, gives, limit-of, limited, stops}
+use Rattle.costs.specs.Lent.{lentCost, lentPattern}
+use Rattle.costs.proofs.Lent.{pattern-named}
 use Rattle.netkat.specs.Check.{check, checkBytes, firstFailure, testSort}
 use Rattle.netkat.specs.Claims.{Allowed}
-use Rattle.netkat.specs.Demands.{CheckDeclined, DesugarDeclined, FieldsDeclined, InLimits, SubrangeInside, SubstituteDeclined}
+use Rattle.netkat.specs.Demands.{CheckDeclined, CostDeclined, DesugarDeclined, FieldsDeclined, InLimits, SubrangeInside, SubstituteDeclined}
 use Rattle.netkat.specs.Points.{walk}
 use Rattle.netkat.proofs.AtPoint.{refusal-of, seen-answer, seen-at}
 use Rattle.netkat.proofs.HighestField.{first-highest, first-refused, refused-at-first}
@@ -91,6 +96,30 @@ check-decided bs = decided (CheckDeclined bs) (checkBytes bs) forth (λ k p. bac
     numbers : (k p : ℕ) → CheckDeclined bs k p → 1 ≤ k
     numbers k p (CheckDeclined.form r q f) = decode-numbers bs f .0
     numbers k p (CheckDeclined.rule e r q f h) = failure-named e h
+
+-- ## Cost
+
+module _ (s e p k : ℕ) (a b : List ℕ × ℕ) where
+  pub cost-decided : Decided (CostDeclined s e p k a b) (lentCost s e p k a b)
+  cost-decided = decided (CostDeclined s e p k a b) (lentCost s e p k a b) forth (λ r q. back r q (lentPattern p k a b) refl) numbers
+    where
+      costed : Answer Pattern → Answer ℕ
+      costed x = andThen x λ m. cost m s e 0
+
+      forth : (r q : ℕ) → CostDeclined s e p k a b r q → lentCost s e p k a b ≡ refuse r q
+      forth r q (CostDeclined.form n t f) = ap costed f
+      forth r q (CostDeclined.rule m n t f h) =
+          ap costed f ∙ ap (λ (x : Answer (Unit {0})). andThen x (λ _. ok (patternCost m (e - s)))) (refusal-of (tt {0}) (rangeRule (Direct s e) (Matches m) (s, e) 0) h)
+
+      back : (r q : ℕ) (x : Answer Pattern) → lentPattern p k a b ≡ x → costed x ≡ refuse r q → CostDeclined s e p k a b r q
+      back r q (ok m) f h =
+          CostDeclined.rule m r q f
+          (ap (λ (x : Answer (Unit {0})). andThen x (λ _. ok (tt {0}))) (refusal-of (patternCost m (e - s)) (rangeRule (Direct s e) (Matches m) (s, e) 0) h))
+      back r q (refuse n t) f h = CostDeclined.form r q (f ∙ same-refusal h)
+
+      numbers : (r q : ℕ) → CostDeclined s e p k a b r q → 1 ≤ r
+      numbers r q (CostDeclined.form n t f) = pattern-named p k a b f
+      numbers r q (CostDeclined.rule m n t f h) = failure-named (Ranged (Direct s e) (Matches m)) h
 
 -- ## Field count
 

@@ -17,14 +17,15 @@ use Rattle.desugar.specs.Desugar.{desugar, desugarBytes}
 use Rattle.desugar.specs.Meter.{drawn}
 use Rattle.desugar.specs.Packets.{Others}
 use Rattle.desugar.proofs.Limit.{Costs, desugar-costs, drawsOf, gives, limit-of, stops}
+use Rattle.costs.specs.Lent.{lentCost}
 use Rattle.netkat.specs.Check.{RulesHold, checkBytes, testSort}
 use Rattle.netkat.specs.Claims.{Desugared, Desugars, Good}
 use Rattle.netkat.specs.Demands.{AtPassing, Covers, Declined, Demand1, Demand2, Demand3, OnGood, WholeTerm}
-use Rattle.netkat.specs.Entry.{Answers, Call, Check, Desugar, FieldCount, Hosts, Subrange, Substitute, TestFragment, hosted}
+use Rattle.netkat.specs.Entry.{Answers, Call, Check, Cost, Desugar, FieldCount, Hosts, Subrange, Substitute, TestFragment, halved, hosted}
 use Rattle.netkat.specs.Points.{Point, definitions, desugarAt}
 use Rattle.netkat.specs.declared.Answer.{Answer as HostAnswer}
 use Rattle.netkat.proofs.AtPoint.{desugar-at-means, desugar-at-succeeds}
-use Rattle.netkat.proofs.Declines.{Decided, check-decided, decided-map, desugar-decided, fields-decided, fragment-decided, subrange-decided, substitute-decided}
+use Rattle.netkat.proofs.Declines.{Decided, check-decided, cost-decided, decided-map, desugar-decided, fields-decided, fragment-decided, subrange-decided, substitute-decided}
 use Rattle.netkat.proofs.Forms.{each-form}
 use Rattle.netkat.proofs.OneStepKinds.{one-step-kinds}
 use Rattle.netkat.proofs.Whole.{check-bytes, desugar-bytes, desugared-bytes, rest, within-limits}
@@ -91,6 +92,7 @@ each-call (Subrange a b s e) out out′ r h =
     map-same : (x : Answer (ℕ × ℕ)) → mapAnswer (λ v. v) x ≡ x
     map-same (ok v) = refl
     map-same (refuse k p) = refl
+each-call (Cost s e p k a b) out out′ r h = hosted-demand halved r (lentCost s e p k a b) (cost-decided s e p k a b) (h .0) out out′ (λ q m f. h .1)
 
 -- no refusal has the number 0
 cause-named : {A : Type 0} {D : ℕ → ℕ → Type 0} {x : Answer A} → Decided D x → (k p : ℕ) → D k p → 1 ≤ k
@@ -103,6 +105,7 @@ never-zero (FieldCount bs) room = cause-named (fields-decided bs)
 never-zero (Desugar bs n work) room = cause-named (desugar-decided bs n work room)
 never-zero (Substitute bs x rs) room = cause-named (substitute-decided bs x rs room)
 never-zero (Subrange a b s e) room = cause-named (subrange-decided a b s e)
+never-zero (Cost s e p k a b) room = cause-named (cost-decided s e p k a b)
 
 -- ## Demand 2
 

@@ -16,6 +16,7 @@ pub mod HighestField
 pub mod Declines
 pub mod Demands
 pub mod LongLiterals
+pub mod Costs
 pub mod Theorems
 pub mod HostBounds
 pub mod HostAnswers

@@ -3,29 +3,35 @@
 -- the host's struct, HostAnswer, is declared in src/lib.rt.
 use mathlib.Core.Path.{_≡_, refl, subst}
 use mathlib.Core.Logic.{_↔_}
-use mathlib.Core.Bool.{Bool, true, false, not}
+use mathlib.Core.Bool.{Bool, true, false, cond, not}
+use mathlib.Core.Option.{some}
 use mathlib.Core.List.{List, [], _∷_, map, List·Memᴰ}
 use Prim.Native.Nat.{ℕ, _+_, _-_, _^_, _≤_, _<_}
 use native.Mathlib.Nat.{zero-add}
-use lib.ListN.{length, getD}
+use lib.Dec.{leb}
+use lib.ListN.{length, getD, replicate}
 use Rattle.literals.specs.Bits.{Bits, Bytes, bitsOf}
 use Rattle.literals.specs.Comparing.{SameTop, StopsWhenDecided, lookedAt}
-use Rattle.literals.specs.Patterns.{IpRange}
+use Rattle.literals.specs.Patterns.{IpRange, Pattern}
 use Rattle.literals.specs.Reading.{fault, literal}
 use Rattle.literals.proofs.Codec.{literal-limit}
 use Rattle.literals.proofs.Comparing.{looked-first, looked-none, stops-when-decided}
-use Rattle.expr.specs.Answers.{ok, refuse}
+use Rattle.expr.specs.Answers.{mapAnswer, ok, refuse}
 use Rattle.expr.specs.Form.{Within, decode, encode}
 use Rattle.expr.specs.Operations.{fieldsBytes, substituteBytes}
-use Rattle.expr.specs.Terms.{Alias, Core, Direct, Expr, LetBitRange, Matches, Name, Plain, Ranged, Star, Test, Tests, Unary, Use, Var, records}
+use Rattle.expr.specs.Terms.{Alias, Core, Direct, Expr, LetBitRange, Matches, Name, Plain, Ranged, Star, Test, Tests, Unary, Use, Var, Where, records}
 use Rattle.expr.proofs.FormTheorem.{bytes-of-encode, decode-encode, form-exact}
-use Rattle.desugar.specs.Bindings.{Env, computeSubrange}
-use Rattle.desugar.specs.Claims.{Limit}
-use Rattle.desugar.specs.Desugar.{desugarBytes}
+use Rattle.desugar.specs.Bindings.{Env, computeSubrange, findRange}
+use Rattle.desugar.specs.Claims.{Limit, drawnTotal}
+use Rattle.desugar.specs.Costs.{cost}
+use Rattle.desugar.specs.Desugar.{desugar, desugarBytes}
+use Rattle.desugar.specs.Meter.{left}
 use Rattle.desugar.specs.Packets.{Others, oneStep}
 use Rattle.desugar.specs.Probes.{answered, computed, further, longer, refusals, refusedBy, stack, starred, stars, stated, tooLong}
+use Rattle.desugar.proofs.Costs.{cost-is-draw, cost-spends, range-draws-most}
 use Rattle.desugar.proofs.Limit.{limit}
 use Rattle.desugar.proofs.Probes.{further-probes, longer-probes, refused-probes, starred-probes, too-long-probes}
+use Rattle.costs.specs.Lent.{lentCost}
 use Rattle.netkat.specs.Check.{RulesHold, check, checkBytes, firstFailure, testSort}
 use Rattle.netkat.specs.Claims.{Accepted, AtPoint, Desugared, Desugars, Good, Inside, PointAt, RangeLimit, Refusal, TakesWhole}
 use Rattle.netkat.specs.Demands.{Declined, Demand1, Demand2, Demand3}
@@ -33,6 +39,7 @@ use Rattle.netkat.specs.Entry.{Answers, Call}
 use Rattle.netkat.specs.Points.{Point, Scope, definitions, desugarAt, walk}
 use Rattle.netkat.specs.declared.Answer.{Answer as HostAnswer}
 use Rattle.netkat.proofs.AtPoint.{desugar-at-answers, desugar-at-means, desugar-at-succeeds}
+use Rattle.netkat.proofs.Costs.{cost-drawn}
 use Rattle.netkat.proofs.Demands.{each-call, never-zero, points-and-whole, trees-and-forms}
 use Rattle.netkat.proofs.Inside.{each-record, inside-points, walk-inside, walk-length}
 use Rattle.netkat.proofs.LongLiterals.{accepted-alias, accepted-direct, range-alias, range-direct}
@@ -200,6 +207,74 @@ pub counted-theorem : (lookedAt 0 [] [] ≡ 0)
     × (lookedAt 8 [] [] ≡ 8)
     × (lookedAt 128 (bitsOf 1 1) [] ≡ 128)
 counted-theorem = (refl, refl, refl, refl, refl, refl, refl, refl)
+
+-- ## Change 5 of document 02: what a pattern will cost (desugar/specs/Costs.antt, costs/specs/Lent.antt)
+
+-- "Prove that this number is the draw of the match desugared without limit": or both are refused, by one number at one place. Under any bindings,
+-- on a range that is written out or that its alias has
+pub cost-theorem : (env : Env Core) (w : Where) (s e : ℕ) → findRange env w ≡ some (s, e)
+    → (p : Pattern) (at : ℕ) → drawnTotal env (Ranged w (Matches p)) at ≡ cost p s e at
+cost-theorem env w s e found p at = cost-is-draw env w p s e at found
+
+-- "no range pattern draws more than 33,529"
+pub range-cost-theorem : (env : Env Core) (w : Where) (a b : Bits) (at n : ℕ) → drawnTotal env (Ranged w (Matches (IpRange a b))) at ≡ ok n → n ≤ 33529
+range-cost-theorem = range-draws-most
+
+-- and this one draws as much: on 128 fields, from 2^127 to the highest value without bit 126
+pub highest-cost-theorem : cost (IpRange (bitsOf 128 (2 ^ 127)) (bitsOf 128 (2 ^ 128 - 1 - 2 ^ 126))) 0 128 0 ≡ ok 33529
+highest-cost-theorem = refl
+
+-- "Planners need the node count of a pattern before they spend allowance on it.": with n left of the allowance the match is refused by 24
+-- exactly if it costs more, and else the cost is taken from it
+pub spent-theorem : (env : Env Core) (w : Where) (s e : ℕ) → findRange env w ≡ some (s, e) → (p : Pattern) (at m : ℕ) → cost p s e at ≡ ok m
+    → (n : ℕ) → mapAnswer (λ r. r .1) (desugar env (Ranged w (Matches p)) at (left n)) ≡ cond (leb m n) (ok (left (n - m))) (refuse 24 at)
+spent-theorem env w s e found p at m h n = cost-spends env w p s e at m found h n
+
+-- and on bytes: where Desugar succeeds on the match alone, the total that it answers is the cost
+pub drawn-theorem : (p : Pattern) (s e : ℕ) → Within (Ranged (Direct s e) (Matches p)) → (n work room : ℕ) (out : List ℕ) (m : ℕ)
+    → desugarBytes (encode (Ranged (Direct s e) (Matches p))) n work room ≡ ok (out, m) → cost p s e 0 ≡ ok m
+drawn-theorem = cost-drawn
+
+-- the figures, of two literals as they are lent. An IpRange: "[0, 2) from 1 to 2: 11 nodes"; an upper bound, a lower bound, equal bounds, the full
+-- range, no fields; short bounds. An Exact on 4 fields, none and 4,294,967,295; a Cidr with a prefix of 3, 0 and 192 bits; a Wildcard with
+-- four, one and no clear mask bits. Bits and bytes behind a literal, and literal B of an Exact, are not looked at
+pub figures-theorem : (lentCost 0 2 3 0 (1 ∷ [], 2) (2 ∷ [], 2) ≡ ok 11)
+    × (lentCost 0 4 3 0 (0 ∷ [], 4) (10 ∷ [], 4) ≡ ok 15)
+    × (lentCost 0 4 3 0 (10 ∷ [], 4) (15 ∷ [], 4) ≡ ok 19)
+    × (lentCost 0 4 3 0 (10 ∷ [], 4) (10 ∷ [], 4) ≡ ok 7)
+    × (lentCost 0 4 3 0 (0 ∷ [], 4) (15 ∷ [], 4) ≡ ok 1)
+    × (lentCost 7 7 3 0 ([], 0) ([], 0) ≡ ok 1)
+    × (lentCost 0 8 3 0 (1 ∷ [], 1) (3 ∷ [], 2) ≡ ok 117)
+    × (lentCost 4 8 0 0 (5 ∷ [], 3) ([], 0) ≡ ok 7)
+    × (lentCost 3 3 0 0 ([], 0) ([], 0) ≡ ok 1)
+    × (lentCost 0 4294967295 0 0 (5 ∷ [], 3) ([], 0) ≡ ok 8589934589)
+    × (lentCost 0 8 1 3 (160 ∷ [], 8) ([], 0) ≡ ok 5)
+    × (lentCost 0 8 1 0 (160 ∷ [], 8) ([], 0) ≡ ok 1)
+    × (lentCost 0 192 1 192 (replicate 24 255, 192) ([], 0) ≡ ok 383)
+    × (lentCost 0 4 2 0 (5 ∷ [], 4) (0 ∷ [], 4) ≡ ok 7)
+    × (lentCost 0 4 2 0 (5 ∷ [], 4) (7 ∷ [], 4) ≡ ok 1)
+    × (lentCost 0 4 2 0 (5 ∷ [], 4) (15 ∷ [], 4) ≡ ok 1)
+    × (lentCost 0 2 3 0 (253 ∷ 9 ∷ [], 2) (254 ∷ [], 2) ≡ ok 11)
+    × (lentCost 4 8 0 7 (5 ∷ [], 3) ([], 4294967295) ≡ ok 7)
+figures-theorem = (refl, refl, refl, refl, refl, refl, refl, refl, refl, refl, refl, refl, refl, refl, refl, refl, refl, refl)
+
+-- each refusal by a small call, most of them with the next one's cause as well
+pub cost-refusals-theorem : (lentCost 4 3 4 0 ([], 193) ([], 193) ≡ refuse 5 0)
+    × (lentCost 4 3 3 0 (replicate 25 0, 193) ([], 1) ≡ refuse 5 0)
+    × (lentCost 4 3 3 0 (1 ∷ [], 9) ([], 193) ≡ refuse 1 0)
+    × (lentCost 4 3 2 0 (1 ∷ [], 8) (replicate 25 0, 193) ≡ refuse 5 0)
+    × (lentCost 4 3 3 0 (1 ∷ [], 8) ([], 1) ≡ refuse 1 0)
+    × (lentCost 4 3 0 0 (1 ∷ [], 8) ([], 0) ≡ refuse 14 0)
+    × (lentCost 0 7 0 0 (1 ∷ [], 8) ([], 0) ≡ refuse 15 0)
+    × (lentCost 0 7 1 8 (1 ∷ [], 8) ([], 0) ≡ refuse 17 0)
+    × (lentCost 0 7 1 7 (1 ∷ [], 8) ([], 0) ≡ refuse 18 0)
+    × (lentCost 0 7 2 0 (1 ∷ [], 8) (1 ∷ [], 7) ≡ refuse 19 0)
+    × (lentCost 0 7 2 0 (1 ∷ [], 7) (1 ∷ [], 8) ≡ refuse 19 0)
+    × (lentCost 0 129 3 0 (2 ∷ [], 2) (1 ∷ [], 2) ≡ refuse 20 0)
+    × (lentCost 0 7 3 0 (2 ∷ [], 8) (1 ∷ [], 7) ≡ refuse 20 0)
+    × (lentCost 0 7 3 0 (2 ∷ [], 7) (1 ∷ [], 8) ≡ refuse 20 0)
+    × (lentCost 0 7 3 0 (2 ∷ [], 7) (1 ∷ [], 7) ≡ refuse 21 0)
+cost-refusals-theorem = (refl, refl, refl, refl, refl, refl, refl, refl, refl, refl, refl, refl, refl, refl, refl)
 
 -- ## Change 6 of document 02: literals of up to 192 bits
 

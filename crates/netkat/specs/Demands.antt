@@ -3,10 +3,11 @@
 use mathlib.Core.{Path._≡_, Logic._↔_, Bool.false, Option.some, List.List, List.[], List.List·Memᴰ}
 use Prim.Native.Nat.{ℕ, _+_, _-_, _^_, _≤_, _<_}
 use lib.{ListN.length, ListN.take, ListN.getD}
-use Rattle.literals.specs.{Bits.Bits, Bits.bitAt, Bits.valueOf, Patterns.Exact, Patterns.Cidr, Patterns.Wildcard, Patterns.IpRange}
-use Rattle.expr.specs.{Answers.Answer, Answers.ok, Answers.refuse, Answers.mapAnswer, Terms.Core, Terms.Name, Terms.Expr, Terms.Ranged, Terms.Where, Terms.Assigns, Terms.Tests, Terms.Matches, Terms.records, Terms.depth, Form.decode, Form.encode, Form.encodeCore, Form.maxRecords, Form.maxDepth, Form.Within, Operations.substitute}
+use Rattle.literals.specs.{Bits.Bits, Bits.bitAt, Bits.valueOf, Patterns.Pattern, Patterns.Exact, Patterns.Cidr, Patterns.Wildcard, Patterns.IpRange}
+use Rattle.expr.specs.{Answers.Answer, Answers.ok, Answers.refuse, Answers.mapAnswer, Terms.Core, Terms.Name, Terms.Expr, Terms.Ranged, Terms.Where, Terms.Direct, Terms.Assigns, Terms.Tests, Terms.Matches, Terms.records, Terms.depth, Form.decode, Form.encode, Form.encodeCore, Form.maxRecords, Form.maxDepth, Form.Within, Operations.substitute}
 use Rattle.desugar.specs.{Bindings.findRange, Meter.drawn, Meter.overdrawn, Desugar.workFor, Packets.Others, Packets.Packet, Packets.coreMeans, Claims.Limit, Claims.TestsFor, Claims.Sets}
-use Rattle.netkat.specs.{Points.Scope, Points.Point, Points.walk, Points.definitions, Points.desugarAt, Points.meansAt, Check.RulesHold, Check.firstFailure, Entry.hosted, Entry.Hosts, Entry.Call, Entry.Check, Entry.TestFragment, Entry.FieldCount, Entry.Desugar, Entry.Substitute, Entry.Subrange, Entry.Answers, Claims.HighestField, Claims.OneStepKinds, Claims.Good, Claims.Allowed, Claims.Unlimited, Claims.Outcome, Claims.Desugared}
+use Rattle.costs.specs.{Lent.lentPattern}
+use Rattle.netkat.specs.{Points.Scope, Points.Point, Points.walk, Points.definitions, Points.desugarAt, Points.meansAt, Check.RulesHold, Check.firstFailure, Entry.hosted, Entry.Hosts, Entry.Call, Entry.Check, Entry.TestFragment, Entry.FieldCount, Entry.Desugar, Entry.Substitute, Entry.Subrange, Entry.Cost, Entry.Answers, Claims.HighestField, Claims.OneStepKinds, Claims.Good, Claims.Allowed, Claims.Unlimited, Claims.Outcome, Claims.Desugared}
 use Rattle.netkat.specs.declared.Answer.{Answer as HostAnswer}
 
 -- ## Demand 1: what is refused
@@ -55,8 +56,15 @@ pub record SubrangeInside (aliasStart aliasEnd subStart subEnd : ℕ) : Type 0 w
   pub order : subStart ≤ subEnd
   pub inside : aliasStart + subEnd ≤ aliasEnd
 
+-- Cost (document 02, change 5): "refused as the match would be, but never by 24, 26 or lack of room": what is out of form of the lent pattern,
+-- then the rule that fails at the match, which is record 0 of its own term
+pub data CostDeclined (s e p k : ℕ) (a b : List ℕ × ℕ) : (number place : ℕ) → Type 0 where
+  form : (r q : ℕ) → lentPattern p k a b ≡ refuse r q → CostDeclined s e p k a b r q
+  rule : (m : Pattern) (r q : ℕ) → lentPattern p k a b ≡ ok m → firstFailure (walk [] (Ranged (Direct s e) (Matches m)) 0) ≡ refuse r q
+      → CostDeclined s e p k a b r q
+
 -- "each by its number and place in document 01": a call with an answer buffer of room bytes is to be refused by a number at a place. Those of
--- form are `decode`'s (expr/specs/Form), those of the rules `ruleAt`'s (Check)
+-- form are `decode`'s (expr/specs/Form) and `lentPattern`'s (costs/specs/Lent), those of the rules `ruleAt`'s (Check)
 abbrev pub Declined : Call → (room number place : ℕ) → Type 0
 Declined (Check bs) room r p = CheckDeclined bs r p
 Declined (TestFragment bs) room r p = decode bs ≡ refuse r p
@@ -64,6 +72,7 @@ Declined (FieldCount bs) room r p = FieldsDeclined bs r p
 Declined (Desugar bs n work) room r p = DesugarDeclined bs n work room r p
 Declined (Substitute bs x rs) room r p = SubstituteDeclined bs x rs room r p
 Declined (Subrange a b s e) room r p = ¬ SubrangeInside a b s e × (r ≡ 28) × (p ≡ 0)
+Declined (Cost s e p k a b) room r q = CostDeclined s e p k a b r q
 
 -- of an answer r, and the answer buffer before and after the call; declined says by which number and place the call is to be refused
 pub record Demand1 (declined : (number place : ℕ) → Type 0) (out out′ : List ℕ) (r : HostAnswer) : Type 0 where

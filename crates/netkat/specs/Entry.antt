@@ -1,10 +1,11 @@
 -- The answers that a host gets (document 01, "What each operation gives, and when it declines").
 use mathlib.Core.{Path._≡_, List.List}
-use Prim.Native.Nat.{ℕ, _+_, _*_}
+use Prim.Native.Nat.{ℕ, _+_, _*_, _/_, _%_, _^_}
 use lib.{ListN.length}
 use Rattle.literals.specs.{Bits.bit}
 use Rattle.expr.specs.{Answers.Answer, Answers.ok, Answers.refuse, Answers.mapAnswer, Answers.bufferAfter, Terms.Name, Operations.fragmentBytes, Operations.fieldsBytes, Operations.substituteBytes}
 use Rattle.desugar.specs.{Bindings.computeSubrange, Desugar.desugarBytes}
+use Rattle.costs.specs.{Lent.lentCost}
 use Rattle.netkat.specs.{Check.checkBytes}
 use Rattle.netkat.specs.declared.Answer.{Answer as HostAnswer}
 
@@ -19,12 +20,18 @@ pub record Hosts (x : Answer (List ℕ × ℕ)) (out out′ : List ℕ) (r : Hos
   pub answer : r ≡ hosted (mapAnswer (λ p. (length (p .0), p .1)) x)
   pub buffer : out′ ≡ bufferAfter (mapAnswer (λ p. p .0) x) out
 
--- a call of an exported function, with the bytes and numbers that it is given; of work memory, its length
+-- document 02, change 5: "Give it in 64 bits": the lower half, then the higher
+abbrev pub halved : ℕ → ℕ × ℕ
+halved n = (n % 2 ^ 32, n / 2 ^ 32)
+
+-- a call of an exported function, with the bytes and numbers that it is given; of work memory, its length; of a lent
+-- literal, its bytes and its length in bits
 pub data Call : Type 0 where
   Check TestFragment FieldCount : (term : List ℕ) → Call
   Desugar : (term : List ℕ) (allowance work : ℕ) → Call
   Substitute : (term : List ℕ) (name : Name) (replacement : List ℕ) → Call
   Subrange : (aliasStart aliasEnd subStart subEnd : ℕ) → Call
+  Cost : (start end pattern number : ℕ) (a b : List ℕ × ℕ) → Call
 
 -- the contract of each exported function: r is its answer, out and out′ its answer buffer before and after the call. One without a buffer is
 -- lent nothing that it could write. The first value of Check and Test fragment is 1 for yes and 0 for no
@@ -35,7 +42,8 @@ Answers (FieldCount bs) out out′ r = (r ≡ hosted (mapAnswer (λ n. (n, 0)) (
 Answers (Desugar bs n work) out out′ r = Hosts (desugarBytes bs n work (length out)) out out′ r
 Answers (Substitute bs x rs) out out′ r = Hosts (mapAnswer (λ cs. (cs, 0)) (substituteBytes bs x rs (length out))) out out′ r
 Answers (Subrange a b s e) out out′ r = (r ≡ hosted (computeSubrange a b s e)) × (out′ ≡ out)
+Answers (Cost s e p k a b) out out′ r = (r ≡ hosted (mapAnswer halved (lentCost s e p k a b))) × (out′ ≡ out)
 
--- this library's version, 0.2.0, as one number, for a host to compare with that of its header. Ours: no sentence of document 01 asks for it
+-- this library's version, 0.3.0, as one number, for a host to compare with that of its header. Ours: no sentence of document 01 asks for it
 abbrev pub version : ℕ
-version = 0 * 65536 + 2 * 256 + 0
+version = 0 * 65536 + 3 * 256 + 0

@@ -1,6 +1,7 @@
 // What the solver's Rust process calls.
 mod answers;
 mod check;
+pub mod cost;
 pub mod operations;
 
 ghost use mathlib.Core.Path.{_≡_};
@@ -49,5 +50,5 @@ pub extern "C" fn netkat_compute_subrange(
 pub extern "C" fn netkat_version() -> u32
     ensures { λ r. ⌜ r ≡ version ⌝ }
 {
-    512
+    768
 }

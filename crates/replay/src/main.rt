@@ -198,15 +198,21 @@ fn subrange(term: &[u8]) -> Answer {
     )
 }
 
-// The refusal of a lent literal: 5 if it is too long, 1 if bytes lack; else 0.
-fn lent(bytes: &[u8], bits: u32) -> u32 {
-    if literals::MAX_LITERAL < bits as usize {
-        return 5;
+// The cost of a pattern, whose six numbers stand before literal A.
+fn costed(term: &[u8], b: &[u8]) -> Answer {
+    if term.len() < 24 {
+        return none();
     }
-    if bytes.len() < (bits as usize + 7) / 8 {
-        return 1;
-    }
-    0
+    netkat::cost::netkat_cost(
+        field(term, 0),
+        field(term, 4),
+        field(term, 8),
+        field(term, 12),
+        &term[24..],
+        field(term, 16),
+        b,
+        field(term, 20),
+    )
 }
 
 fn order_number(order: Order) -> u32 {
@@ -233,13 +239,13 @@ fn compared(a: &[u8], a_bits: u32, b: &[u8], b_bits: u32, width: u32) -> Answer
 
 // The bounds of a range pattern, compared. `compare` refuses nothing, so its caller judges them: each literal, then by 20 the lengths.
 fn bounds(a: &[u8], a_bits: u32, b: &[u8], b_bits: u32, width: u32) -> Answer {
-    let first = lent(a, a_bits);
+    let first = literals::lent_refusal(a, a_bits);
     if first != 0 {
-        return refused(first);
+        return refused(first as u32);
     }
-    let second = lent(b, b_bits);
+    let second = literals::lent_refusal(b, b_bits);
     if second != 0 {
-        return refused(second);
+        return refused(second as u32);
     }
     if MAX_RANGE_BITS < width || width < a_bits || width < b_bits {
         return refused(20);
@@ -264,6 +270,7 @@ fn agrees(case: Case, term: &[u8], replacement: &[u8], result: &[u8]) -> bool {
             expected(case),
             bounds(term, case.work, replacement, case.room, case.allowance),
         ),
+        8 => agree(expected(case), costed(term, replacement)),
         _ => false,
     }
 }

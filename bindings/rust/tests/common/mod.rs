@@ -69,7 +69,7 @@ impl Random {
     }
 
     /// A range and its width; now and then one that ends below its start.
-    fn range(&mut self) -> (u32, u32, usize) {
+    pub fn range(&mut self) -> (u32, u32, usize) {
         let start = self.below(12) as u32;
         if self.below(15) == 0 {
             return (start + 3, start, 0);
@@ -79,7 +79,7 @@ impl Random {
     }
 
     /// A pattern for a range of this width; now and then one that does not suit it.
-    fn pattern(&mut self, width: usize) -> Pattern {
+    pub fn pattern(&mut self, width: usize) -> Pattern {
         let width = if self.below(6) == 0 { self.length() } else { width };
         match self.below(4) {
             0 => Pattern::Exact(self.bits(width)),

@@ -1,13 +1,11 @@
--- `desugar::between::range_size` meets its contract: one `returns` for each case of `betweenCase`.
-use mathlib.Core.Path.{_∙_, ap, refl, sym}
-use mathlib.Core.Bool.{false, true}
-use Prim.Native.Nat.{_+_}
-use native.Mathlib.Omega.{arith}
+-- `desugar::between::range_size` meets its contract: equal bounds, and others by their bits that stand.
+use mathlib.Core.Path.{_∙_, ap, sym}
 use borrow.Author.Needs.{needs}
 use lib.ListN.{take}
 use Rattle.literals.specs.Bits.{unpack}
-use Rattle.desugar.specs.LeafWords.{chainSize}
-use Rattle.desugar.proofs.BetweenWords.{between-size-is, bound-most}
+use Rattle.desugar.specs.Costs.{chainSize}
+use Rattle.desugar.specs.LeafWords.{stretch}
+use Rattle.desugar.proofs.BetweenWords.{between-size-by}
 use Rattle.desugar.proofs.Chains.{length-stretch}
 use Rattle.desugar.proofs.between.range_size.Statement.{statement}
 use Rattle.desugar.proofs.between.range_size.Tie as tie
@@ -20,66 +18,44 @@ chain-size-requires c κs = search needs
 
 returns : tie.Need-returns
 returns c =
-    let a = c .before .before .before .before .before .args in
+    let e = c .before .before .before .before .before in
+    let a = e .args in
     let low = unpack (a .low .now) in
     c .chain-size .ensures
     ∙ ap chainSize (sym (length-stretch (take (a .low-bits) low) 0 (a .width)))
-    ∙ between-size-is (a .low-bits) (a .high-bits) (a .width) low (unpack (a .high .now)) (c .before .before .before .before .before .pre .low-fits) (c .before .before .before .before .before .pre .high-fits)
-    (sym (c .before .if1 .taken) ∙ c .before .before .same-value .ensures) refl refl
+    ∙ between-size-by (a .low-bits) (a .high-bits) (a .width) low (unpack (a .high .now)) (e .pre .low-fits) (e .pre .high-fits)
+    (sym (c .before .if1 .taken) ∙ c .before .before .same-value .ensures)
 
-is-zero-requires : tie.Need-is-zero-requires
-is-zero-requires c κs = search needs
+standing-padded-requires : tie.Need-standing-padded-requires
+standing-padded-requires c κs = search needs
 
-is-highest-requires : tie.Need-is-highest-requires
-is-highest-requires c κs = search needs
+standing-padded-requires-2 : tie.Need-standing-padded-requires-2
+standing-padded-requires-2 c κs = search needs
+
+bounds-size-requires : tie.Need-bounds-size-requires
+bounds-size-requires c κs =
+    let e = c .before .before .before .before .before .before in
+    let a = e .args in
+    let lower = take (a .low-bits) (unpack (a .low .now)) in
+    let upper = take (a .high-bits) (unpack (a .high .now)) in (
+      (stretch lower 0 (a .width), length-stretch lower 0 (a .width), c .before .standing-padded .ensures),
+      (stretch upper 0 (a .width), length-stretch upper 0 (a .width), c .standing-padded2 .ensures),
+      e .pre .some,
+      e .pre .wide,
+    )
 
 returns-2 : tie.Need-returns-2
 returns-2 c =
-    let a = c .before .before .before .before .before .before .before .before .args in
-    between-size-is (a .low-bits) (a .high-bits) (a .width) (unpack (a .low .now)) (unpack (a .high .now)) (c .before .before .before .before .before .before .before .before .pre .low-fits) (c .before .before .before .before .before .before .before .before .pre .high-fits)
-    (sym (c .before .before .before .before .if1 .left) ∙ c .before .before .before .before .before .same-value .ensures) (sym (c .before .if2 .taken) ∙ c .before .before .before .is-zero .ensures) (sym (c .if3 .taken) ∙ c .before .before .is-highest .ensures)
-
-bound-size-requires : tie.Need-bound-size-requires
-bound-size-requires c κs = search needs
-
-returns-3 : tie.Need-returns-3
-returns-3 c =
-    let a = c .before .before .before .before .before .before .before .before .before .args in
-    c .bound-size .ensures
-    ∙ between-size-is (a .low-bits) (a .high-bits) (a .width) (unpack (a .low .now)) (unpack (a .high .now)) (c .before .before .before .before .before .before .before .before .before .pre .low-fits) (c .before .before .before .before .before .before .before .before .before .pre .high-fits)
-    (sym (c .before .before .before .before .before .if1 .left) ∙ c .before .before .before .before .before .before .same-value .ensures) (sym (c .before .before .if2 .taken) ∙ c .before .before .before .before .is-zero .ensures) (sym (c .before .if3 .left) ∙ c .before .before .before .is-highest .ensures)
-
-bound-size-requires-2 : tie.Need-bound-size-requires-2
-bound-size-requires-2 c κs = search needs
-
-returns-4 : tie.Need-returns-4
-returns-4 c =
-    let a = c .before .before .before .before .before .before .before .before .before .args in
-    c .before .bound-size2 .ensures
-    ∙ between-size-is (a .low-bits) (a .high-bits) (a .width) (unpack (a .low .now)) (unpack (a .high .now)) (c .before .before .before .before .before .before .before .before .before .pre .low-fits) (c .before .before .before .before .before .before .before .before .before .pre .high-fits)
-    (sym (c .before .before .before .before .before .if1 .left) ∙ c .before .before .before .before .before .before .same-value .ensures) (sym (c .before .before .if2 .left) ∙ c .before .before .before .before .is-zero .ensures) (sym (c .if4 .taken) ∙ c .before .before .before .is-highest .ensures)
-
-add-result : tie.Need-add-result
-add-result c =
-    let a = c .before .before .before .before .before .before .before .before .before .args in
-    omega (arith, c .before .bound-size2 .ensures, bound-most false (take (a .low-bits) (unpack (a .low .now))) (a .width) (c .before .before .before .before .before .before .before .before .before .pre .wide))
-
-bound-size-requires-3 : tie.Need-bound-size-requires-3
-bound-size-requires-3 c κs = search needs
-
-add-result-2 : tie.Need-add-result-2
-add-result-2 c =
-    let a = c .before .before .before .before .before .before .before .before .before .before .args in
-    let lower = bound-most false (take (a .low-bits) (unpack (a .low .now))) (a .width) (c .before .before .before .before .before .before .before .before .before .before .pre .wide) in
-    let upper = bound-most true (take (a .high-bits) (unpack (a .high .now))) (a .width) (c .before .before .before .before .before .before .before .before .before .before .pre .wide) in
-    omega (arith, c .before .before .bound-size2 .ensures, c .bound-size3 .ensures)
-
-returns-5 : tie.Need-returns-5
-returns-5 c =
-    let a = c .before .before .before .before .before .before .before .before .before .before .args in
-    (λ i. 1 + c .before .before .bound-size2 .ensures i + c .bound-size3 .ensures i)
-    ∙ between-size-is (a .low-bits) (a .high-bits) (a .width) (unpack (a .low .now)) (unpack (a .high .now)) (c .before .before .before .before .before .before .before .before .before .before .pre .low-fits) (c .before .before .before .before .before .before .before .before .before .before .pre .high-fits)
-    (sym (c .before .before .before .before .before .before .if1 .left) ∙ c .before .before .before .before .before .before .before .same-value .ensures) (sym (c .before .before .before .if2 .left) ∙ c .before .before .before .before .before .is-zero .ensures) (sym (c .before .if4 .left) ∙ c .before .before .before .before .is-highest .ensures)
+    let e = c .before .before .before .before .before .before .before in
+    let a = e .args in
+    let low = unpack (a .low .now) in
+    let high = unpack (a .high .now) in
+    let lower = take (a .low-bits) low in
+    let upper = take (a .high-bits) high in
+    c .bounds-size .ensures (stretch lower 0 (a .width)) (stretch upper 0 (a .width)) (length-stretch lower 0 (a .width)) (c .before .before .standing-padded .ensures)
+    (length-stretch upper 0 (a .width)) (c .before .standing-padded2 .ensures)
+    ∙ between-size-by (a .low-bits) (a .high-bits) (a .width) low high (e .pre .low-fits) (e .pre .high-fits)
+    (sym (c .before .before .before .if1 .left) ∙ c .before .before .before .before .same-value .ensures)
 
 pub range-size-spec : {M : Type 1} → statement M
 range-size-spec =
@@ -88,14 +64,7 @@ range-size-spec =
     same-value-requires
     chain-size-requires
     returns
-    is-zero-requires
-    is-highest-requires
-    returns-2
-    bound-size-requires
-    returns-3
-    bound-size-requires-2
-    returns-4
-    add-result
-    bound-size-requires-3
-    add-result-2
-    returns-5)
+    standing-padded-requires
+    standing-padded-requires-2
+    bounds-size-requires
+    returns-2)

@@ -7,7 +7,8 @@ use lib.ListN.{length, take}
 use lib.Seq.{sets}
 use Rattle.literals.specs.Bits.{unpack}
 use Rattle.expr.specs.Terms.{Union}
-use Rattle.desugar.specs.LeafWords.{Ready, differencesSize, linked, stretch}
+use Rattle.desugar.specs.Costs.{differencesSize}
+use Rattle.desugar.specs.LeafWords.{Ready, linked, stretch}
 use Rattle.desugar.specs.Leaves.{differences}
 use Rattle.desugar.proofs.BoundWords.{bound-last, bound-more, differences-none, ready-none, size-below, size-more, size-none, size-whole}
 use Rattle.desugar.proofs.leaves.write_bound.Statement.{statement}

@@ -5,7 +5,8 @@ use native.Mathlib.Omega.{arith}
 use borrow.Author.Needs.{needs}
 use lib.ListN.{take}
 use Rattle.literals.specs.Bits.{unpack}
-use Rattle.desugar.specs.LeafWords.{clear, stretch}
+use Rattle.desugar.specs.Costs.{clear}
+use Rattle.desugar.specs.LeafWords.{stretch}
 use Rattle.desugar.proofs.Masked.{clear-most, clear-next}
 use Rattle.desugar.proofs.masks.masked_count.Statement.{statement}
 use Rattle.desugar.proofs.masks.masked_count.Tie as tie

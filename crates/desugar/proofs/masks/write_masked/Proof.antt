@@ -9,7 +9,8 @@ use lib.ListN.{getD, length, take}
 use lib.Seq.{sets}
 use Rattle.literals.specs.Bits.{unpack}
 use Rattle.expr.specs.Terms.{Intersect, One}
-use Rattle.desugar.specs.LeafWords.{clear, linked, stretch, trim}
+use Rattle.desugar.specs.Costs.{clear}
+use Rattle.desugar.specs.LeafWords.{linked, stretch, trim}
 use Rattle.desugar.specs.Leaves.{chain}
 use Rattle.desugar.specs.Memory.{words}
 use Rattle.desugar.proofs.Masked.{clear-below, clear-last, clear-next, lows, masked-last, masked-more, masked-none}

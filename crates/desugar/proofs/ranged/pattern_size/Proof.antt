@@ -2,7 +2,7 @@
 use mathlib.Core.Path.{_∙_, ap, refl}
 use native.Mathlib.Omega.{arith}
 use borrow.Author.Needs.{needs}
-use Rattle.desugar.specs.LeafWords.{chainSize}
+use Rattle.desugar.specs.Costs.{chainSize}
 use Rattle.desugar.specs.RangedWords.{recordWith}
 use Rattle.desugar.proofs.Masked.{clear-most}
 use Rattle.desugar.proofs.RangedCores.{cidr-core, wildcard-core, values-core, values-fit, exact-core, counted}

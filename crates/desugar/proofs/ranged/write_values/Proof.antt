@@ -5,7 +5,8 @@ use borrow.Author.Needs.{needs}
 use lib.ListN.{take}
 use lib.Seq.{sets}
 use Rattle.literals.specs.Bits.{unpack}
-use Rattle.desugar.specs.LeafWords.{betweenSize, stretch}
+use Rattle.desugar.specs.Costs.{betweenSize}
+use Rattle.desugar.specs.LeafWords.{stretch}
 use Rattle.desugar.specs.Leaves.{between}
 use Rattle.desugar.specs.Memory.{words}
 use Rattle.desugar.proofs.ranged.write_values.Statement.{statement}
