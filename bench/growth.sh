@@ -1,6 +1,6 @@
 #!/bin/sh
-# Instructions of one call of each operation on terms of growing size, then of Check on range patterns of growing width, counted by valgrind's
-# callgrind: they repeat.
+# Instructions of one call of each operation on terms of growing size, then of Check on range patterns of growing width, then of Cost and Desugar on
+# one match, counted by valgrind's callgrind: they repeat.
 # Needs what bench/run.sh needs, and valgrind.
 here=$(dirname "$0")/../oracle
 . "$here/prepare.sh"
@@ -41,4 +41,17 @@ for differs in top lowest none; do
         line="$line $(instructions netkat_check "$terms/bounds_$differs-$width.bin") |"
     done
     echo "$line"
+done
+
+echo
+echo "| match | fields | nodes | cost | desugar | times |"
+echo "|---|---|---|---|---|---|"
+for match in dearest middle prefix; do
+    for width in 8 32 64 128; do
+        term=$terms/match_$match-$width.bin
+        set -- $("$oracle" once "$term")
+        # a match is asked twice, with other bytes behind its literals
+        cost=$(($(instructions netkat_cost "$term") / 2)) desugar=$(instructions netkat_desugar "$term")
+        echo "| $match | $width | $3 | $cost | $desugar | $((desugar / cost)) |"
+    done
 done

@@ -65,12 +65,12 @@ uint32_t netkat_version(void);
  * handlers. Measured, not proved: tests/stack.c looks for the worst terms of 256 levels on x86-64, and then runs each function on just so
  * much. `make stack` prints these lines anew: what was measured and 512 more, rounded up to 4,096. */
 #define NETKAT_STACK_CHECK 163840            /* 159808 measured */
-#define NETKAT_STACK_DESUGAR 233472          /* 229472 measured */
+#define NETKAT_STACK_DESUGAR 237568          /* 233648 measured */
 #define NETKAT_STACK_SUBSTITUTE 102400       /* 98720 measured */
 #define NETKAT_STACK_IS_TEST_FRAGMENT 57344  /* 53472 measured */
 #define NETKAT_STACK_NUM_FIELDS 57344        /* 53472 measured */
 #define NETKAT_STACK_COMPUTE_SUBRANGE 4096   /* 48 measured */
-#define NETKAT_STACK_COST 4096               /* 232 measured */
+#define NETKAT_STACK_COST 4096               /* 352 measured */
 
 /* The numbers of refusals. 41 to 54 are kept for functions to come. */
 enum netkat_refusal {

@@ -1,7 +1,8 @@
 //! Times of the port and of the original, on policies of a folder and of policies.rs; terms of growing size, to count instructions on.
+use crate::costs::Match;
 use crate::desugar::desugar;
 use crate::expr::Expr;
-use crate::model::{decode, desugar_walk, work_needed, Env, Meter};
+use crate::model::{decode, desugar_walk, work_needed, Env, Meter, RANGEMATCH};
 use crate::{original, policies, port};
 use std::hint::black_box;
 use std::time::Instant;
@@ -201,6 +202,10 @@ pub fn once(path: &str) -> bool {
     match port::desugar_into(&term, ALLOWANCE, &mut work, &mut out) {
         Ok((length, drawn)) => println!("{} {length} {drawn}", term.len()),
         Err((number, place)) => println!("{path}: refused by {number} at {place}"),
+    }
+    let root = decode(&term).expect("a term").0;
+    if root.kind == RANGEMATCH && port::cost(&Match::of(&root)).is_err() {
+        return false;
     }
     let others = [port::check(&term).is_ok(), port::fragment(&term).is_ok(), port::fields(&term).is_ok()];
     others.iter().all(|&good| good) && port::substitute(&term, u16::MAX, &[1, 1], term.len() as u64).is_ok()

@@ -29,7 +29,7 @@ pub struct Match {
 }
 
 impl Match {
-    fn of(n: &Node) -> Match {
+    pub fn of(n: &Node) -> Match {
         let (a, b) = (Lent::of_bits(&n.a), Lent::of_bits(&n.b));
         Match { start: n.start, end: n.end, pattern: n.pat as u32, number: n.num as u32, a, b }
     }

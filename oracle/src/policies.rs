@@ -225,8 +225,24 @@ fn bounds(width: usize, differs: Option<usize>) -> Node {
     two(UNION, pattern, Node { kind: RANGETEST, end: 192, a: vec![true; 192], ..Node::default() })
 }
 
+fn values(a: Vec<bool>, b: Vec<bool>) -> Node {
+    Node { kind: RANGEMATCH, end: a.len() as u32, pat: 3, a, b, ..Node::default() }
+}
+
+/// The range pattern that costs most on `width` fields: from the top bit alone to all bits but the second.
+fn dearest_range(width: usize) -> Node {
+    values((0..width).map(|i| i == width - 1).collect(), (0..width).map(|i| i != width - 2).collect())
+}
+
+/// A range between random bounds; the top bit keeps them in order.
+fn middle_range(width: usize) -> Node {
+    let mut r = Rng::new(width as u64);
+    let mut bound = |top| (1..width).map(|_| r.bool()).chain([top]).collect();
+    values(bound(false), bound(true))
+}
+
 /// The same policies from about 1,000 to about 60,000 drawn nodes, or to the deepest term that is allowed; one large core below more and
-/// more Lets; and range patterns, by the first bit in which their bounds differ.
+/// more Lets; range patterns, by the first bit in which their bounds differ; and matches alone, whose cost is asked too.
 pub fn growing() -> Vec<(String, Vec<u8>)> {
     let mut all = Vec::new();
     let mut add = |family: &str, size: u32, tree: Node| all.push((format!("{family}-{size}"), encoded(&tree)));
@@ -251,6 +267,11 @@ pub fn growing() -> Vec<(String, Vec<u8>)> {
         add("bounds_top", n, bounds(n as usize, Some(n as usize - 1)));
         add("bounds_lowest", n, bounds(n as usize, Some(0)));
         add("bounds_none", n, bounds(n as usize, None));
+    }
+    for n in [8, 32, 64, 128] {
+        add("match_dearest", n, dearest_range(n as usize));
+        add("match_middle", n, middle_range(n as usize));
+        add("match_prefix", n, Node { kind: RANGEMATCH, end: n, pat: 1, num: n as u8, a: vec![true; n as usize], ..Node::default() });
     }
     all
 }
