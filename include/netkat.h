@@ -224,11 +224,12 @@ netkat_answer netkat_compute_subrange(uint32_t alias_start, uint32_t alias_end, 
  * number is the prefix of a Cidr, any number of 32 bits; the other patterns do not look at it. A literal is lent without the length byte
  * that it has in a term: its bits lie in a, bit 0 the lowest of the first byte, and there are a_bits of them. Spare bits of the last byte
  * and further bytes are not looked at. So with literal B, which Wildcard and IpRange have; for Exact and Cidr b, b_len and b_bits are not
- * looked at.
+ * looked at: NULL, 0 and 0 will do.
  * 5 if the pattern is above 3; 5 if A has more than 192 bits, 1 if a has fewer bytes than they need; the same of B; then as the match is
  * refused: 14; 15 (Exact), 17 before 18 (Cidr), 19 (Wildcard), 20 before 21 (IpRange). */
 netkat_answer netkat_cost(uint32_t start, uint32_t end, uint32_t pattern, uint32_t number, const uint8_t *a, size_t a_len, uint32_t a_bits,
                           const uint8_t *b, size_t b_len, uint32_t b_bits);
+/* The cost that netkat_cost answered; 0 if it refused. The argument is evaluated twice. */
 #define NETKAT_COST(answer) ((uint64_t)(answer).second << 32 | (answer).first)
 
 #ifdef __cplusplus

@@ -313,7 +313,7 @@ impl Stats {
         self.same("model: substitute", &input, model::substitute(&term, name, &with, ANY_LENGTH), Ok(bytes));
     }
 
-    /// All six functions of the port.
+    /// The six functions of the port that document 01 asks for.
     fn port(&mut self, bytes: &[u8], r: &mut Rng, allowance: u64, out: u64) {
         self.count("port compared");
         let input = hex(bytes);

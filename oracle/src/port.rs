@@ -1,5 +1,5 @@
 //! The functions of include/netkat.h. Each wrapper also looks for what the header rules out: values beside a refusal, a changed byte
-//! where none may change, a number written behind the lent work memory, an answer that hangs on bytes behind a literal. It panics there.
+//! where none may change, a number written behind the lent work memory, an answer that depends on bytes behind a literal. It panics there.
 use crate::costs::Match;
 use crate::model::{Desugared, Res};
 

@@ -38,8 +38,8 @@ use crate::{ffi, Field, Pattern, Refusal};
 /// # Ok::<(), netkat::ParsePatternError>(())
 /// ```
 ///
-/// A CIDR prefix above [`MAX_CIDR_PREFIX`](crate::limits::MAX_CIDR_PREFIX) is refused by 17 or 18 here; in a policy, where it cannot be
-/// written, by 5.
+/// A CIDR prefix above [`MAX_CIDR_PREFIX`](crate::limits::MAX_CIDR_PREFIX) is refused by 17 or 18 here, if not by 5 or 14 before; in a
+/// policy, where it cannot be written, by 5.
 pub fn cost(range: Range<Field>, pattern: &Pattern) -> Result<u64, Refusal> {
     let Record { pattern, number, a, b, .. } = Record::new(kind::BIT_RANGE_MATCH).with_pattern(pattern);
     // What stands for a prefix beyond 32 bits is above every width but the greatest, on which every address is too short: 18, not 17.

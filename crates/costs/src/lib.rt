@@ -40,16 +40,6 @@ fn match_cost(
     requires { ⌜ (length (take «a_bits» (unpack (now a))) ≡ «a_bits») × (length (take «b_bits» (unpack (now b))) ≡ «b_bits») ⌝ }
     ensures { λ r. ⌜ costAnswer r ≡ cost (patternWith pattern number (take «a_bits» (unpack (now (a .entry)))) (take «b_bits» (unpack (now (b .entry))))) «start» «end» 0 ⌝ }
 {
-    let first = Literal {
-        at: 0,
-        bits: a_bits,
-        next: 0,
-    };
-    let second = Literal {
-        at: 0,
-        bits: b_bits,
-        next: 0,
-    };
     let head = Head {
         kind: 25,
         name: 0,
@@ -57,8 +47,16 @@ fn match_cost(
         end,
         pattern,
         number,
-        a: first,
-        b: second,
+        a: Literal {
+            at: 0,
+            bits: a_bits,
+            next: 0,
+        },
+        b: Literal {
+            at: 0,
+            bits: b_bits,
+            next: 0,
+        },
         size: 0,
     };
     let rule = desugar::rules::range_rule(head, a, b, start, end);

@@ -179,10 +179,10 @@ no-one [] h = refl
 no-one (true ∷ a) h = absurd (omega arith)
 no-one (false ∷ a) h = omega (arith, no-one a (omega arith))
 
-some-one : (a : Bits) → valueOf a ≡ 0 → ones a ≡ 0
-some-one [] h = refl
-some-one (true ∷ a) h = absurd (omega arith)
-some-one (false ∷ a) h = omega (arith, some-one a (omega arith))
+zero-no-one : (a : Bits) → valueOf a ≡ 0 → ones a ≡ 0
+zero-no-one [] h = refl
+zero-no-one (true ∷ a) h = absurd (omega arith)
+zero-no-one (false ∷ a) h = omega (arith, zero-no-one a (omega arith))
 
 all-ones : (a : Bits) → ones a ≡ length a → valueOf a + 1 ≡ 2 ^ length a
 all-ones [] h = refl
@@ -199,7 +199,7 @@ module _ (a : Bits) where
   zero-is h = sym (eq-eqb (valueOf a) 0 (no-one a h))
 
   pub zero-not : (ones a ≡ 0 → ⊥) → false ≡ eqb (valueOf a) 0
-  zero-not h = sym (ne-eqb (valueOf a) 0 (λ e. h (some-one a e)))
+  zero-not h = sym (ne-eqb (valueOf a) 0 (λ e. h (zero-no-one a e)))
 
   pub highest-is : ones a ≡ length a → true ≡ eqb (valueOf a + 1) (2 ^ length a)
   highest-is h = sym (eq-eqb (valueOf a + 1) (2 ^ length a) (all-ones a h))

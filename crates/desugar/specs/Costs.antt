@@ -1,5 +1,5 @@
--- How many nodes a pattern's core has, without making one (document 02, change 5, "What a pattern will cost"). A leaf draws "its whole core", so
--- desugaring draws by these figures too.
+-- How many nodes a pattern's core has, without making one (document 02, change 5, "What a pattern will cost"). A leaf draws "its whole core": that
+-- this is what it draws is `cost-theorem` (netkat/proofs/Theorems.antt).
 use mathlib.Core.{Bool.Bool, Bool.true, Bool.false, Bool.cond, Bool.Bool·beq, List.[], List._∷_}
 use Prim.Native.Nat.{ℕ, _+_, _-_, _*_, _^_}
 use lib.{Dec.eqb, ListN.length}

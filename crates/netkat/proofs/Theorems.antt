@@ -1,7 +1,7 @@
 -- The theorems on the definitions: the three demands, then what stands behind them. A reviewer reads the statements here first; each proof
 -- is a few lines that cite the laws beside this file and in the crates below. The definitions that a statement uses stand in specs/; only
 -- the host's struct, HostAnswer, is declared in src/lib.rt.
-use mathlib.Core.Path.{_≡_, refl, subst}
+use mathlib.Core.Path.{_≡_, refl, subst, _∙_}
 use mathlib.Core.Logic.{_↔_}
 use mathlib.Core.Bool.{Bool, true, false, cond, not}
 use mathlib.Core.Option.{some}
@@ -33,13 +33,13 @@ use Rattle.desugar.proofs.Limit.{limit}
 use Rattle.desugar.proofs.Probes.{further-probes, longer-probes, refused-probes, starred-probes, too-long-probes}
 use Rattle.costs.specs.Lent.{lentCost}
 use Rattle.netkat.specs.Check.{RulesHold, check, checkBytes, firstFailure, testSort}
-use Rattle.netkat.specs.Claims.{Accepted, AtPoint, Desugared, Desugars, Good, Inside, PointAt, RangeLimit, Refusal, TakesWhole}
+use Rattle.netkat.specs.Claims.{Accepted, AtPoint, CostNumber, Desugared, Desugars, Good, Inside, PointAt, RangeLimit, Refusal, TakesWhole}
 use Rattle.netkat.specs.Demands.{Declined, Demand1, Demand2, Demand3}
 use Rattle.netkat.specs.Entry.{Answers, Call}
 use Rattle.netkat.specs.Points.{Point, Scope, definitions, desugarAt, walk}
 use Rattle.netkat.specs.declared.Answer.{Answer as HostAnswer}
 use Rattle.netkat.proofs.AtPoint.{desugar-at-answers, desugar-at-means, desugar-at-succeeds}
-use Rattle.netkat.proofs.Costs.{cost-drawn}
+use Rattle.netkat.proofs.Costs.{cost-drawn, cost-numbers}
 use Rattle.netkat.proofs.Demands.{each-call, never-zero, points-and-whole, trees-and-forms}
 use Rattle.netkat.proofs.Inside.{each-record, inside-points, walk-inside, walk-length}
 use Rattle.netkat.proofs.LongLiterals.{accepted-alias, accepted-direct, range-alias, range-direct}
@@ -221,8 +221,13 @@ pub range-cost-theorem : (env : Env Core) (w : Where) (a b : Bits) (at n : ℕ) 
 range-cost-theorem = range-draws-most
 
 -- and this one draws as much: on 128 fields, from 2^127 to the highest value without bit 126
-pub highest-cost-theorem : cost (IpRange (bitsOf 128 (2 ^ 127)) (bitsOf 128 (2 ^ 128 - 1 - 2 ^ 126))) 0 128 0 ≡ ok 33529
-highest-cost-theorem = refl
+pub highest-cost-theorem : drawnTotal [] (Ranged (Direct 0 128) (Matches (IpRange (bitsOf 128 (2 ^ 127)) (bitsOf 128 (2 ^ 128 - 1 - 2 ^ 126))))) 0 ≡ ok 33529
+highest-cost-theorem = cost-is-draw [] (Direct 0 128) (IpRange (bitsOf 128 (2 ^ 127)) (bitsOf 128 (2 ^ 128 - 1 - 2 ^ 126))) 0 128 0 refl ∙ refl
+
+-- "refused as the match would be, but never by 24, 26 or lack of room": by 1, 5, 14, 15 or 17 to 21 (specs/Claims.antt: CostNumber), at place 0. Which
+-- of them it is, `demand-1` says
+pub cost-numbers-theorem : (s e p k : ℕ) (a b : List ℕ × ℕ) (r q : ℕ) → lentCost s e p k a b ≡ refuse r q → CostNumber r × (q ≡ 0)
+cost-numbers-theorem = cost-numbers
 
 -- "Planners need the node count of a pattern before they spend allowance on it.": with n left of the allowance the match is refused by 24
 -- exactly if it costs more, and else the cost is taken from it

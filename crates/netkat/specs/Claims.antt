@@ -1,6 +1,6 @@
 -- What the theorems claim of points and of whole terms (document 01, "The words of demand 3"; the theorems stand in
 -- proofs/Theorems.antt).
-use mathlib.Core.{Path._≡_, Logic._↔_, Bool.true, List.List, List.[], List._∷_, List._++_, List.List·Memᴰ}
+use mathlib.Core.{Path._≡_, Logic._⊎_, Logic._↔_, Bool.true, List.List, List.[], List._∷_, List._++_, List.List·Memᴰ}
 use Prim.Native.Nat.{ℕ, _+_, _^_, _≤_, _<_}
 use lib.{ListN.length}
 use Rattle.literals.specs.{Bits.Bits, Bits.valueOf, Patterns.Exact, Patterns.Cidr, Patterns.Wildcard}
@@ -126,6 +126,12 @@ pub record Desugared (bs : List ℕ) (out : List ℕ) (m : ℕ) : Type 0 where
   pub unlimited : Unlimited term core draws
   pub bytes : out ≡ encodeCore core
   pub total : m ≡ drawn draws
+
+-- ## Change 5 of document 02
+
+-- 1, 5, 14, 15 or 17 to 21
+abbrev pub CostNumber : ℕ → Type 0
+CostNumber r = (r ≡ 1) ⊎ ((r ≡ 5) ⊎ ((r ≡ 14) ⊎ ((r ≡ 15) ⊎ ((17 ≤ r) × (r ≤ 21)))))
 
 -- ## Change 6 of document 02
 
