@@ -1,6 +1,6 @@
 -- `desugar::standing::standing_padded` meets its contract: the bits above a literal do not stand, and those of the literal are further from the top.
 use mathlib.Core.Path.{_∙_, sym}
-use Prim.Native.Nat.{_*_, _+_, _-_}
+use Prim.Native.Nat.{_*_, _+_, _-_, _≤_}
 use native.Mathlib.Omega.{arith}
 use borrow.Author.Needs.{needs}
 use lib.ListN.{length-take, take}
@@ -17,32 +17,26 @@ standing-bits-requires c κs = search needs
 sub-above : tie.Need-sub-above
 sub-above c = search needs
 
-mul-t7 : tie.Need-mul-t7
-mul-t7 c =
-    let e = c .before in
+few : (e : tie.After-standing-bits) → (e .standing-bits .result .count ≤ 128) × (e .standing-bits .result .size ≤ 32768)
+few e =
     let a = e .before .before .args in
     let p = e .before .before .pre in
     let bits = take (a .bits) (unpack (a .bytes .now)) in
-    let few = stands-few (stretch bits 0 (a .bits)) (e .standing-bits .result) (a .bits) (e .standing-bits .ensures) (length-stretch bits 0 (a .bits)) (omega (arith, p .0, p .1)) in
-    omega (arith, product-small (a .width - a .bits) (e .standing-bits .result .count) (omega (arith, p .1)) (few .0))
+    stands-few (stretch bits 0 (a .bits)) (e .standing-bits .result) (a .bits) (e .standing-bits .ensures) (length-stretch bits 0 (a .bits)) (omega (arith, p .0, p .1))
+
+product : (e : tie.After-standing-bits) → (e .before .before .args .width - e .before .before .args .bits) * e .standing-bits .result .count ≤ 16384
+product e =
+    let a = e .before .before .args in
+    product-small (a .width - a .bits) (e .standing-bits .result .count) (omega (arith, e .before .before .pre .1)) (few e .0)
+
+mul-t7 : tie.Need-mul-t7
+mul-t7 c = omega (arith, product (c .before))
 
 mul-t8 : tie.Need-mul-t8
-mul-t8 c =
-    let e = c .before in
-    let a = e .before .before .args in
-    let p = e .before .before .pre in
-    let bits = take (a .bits) (unpack (a .bytes .now)) in
-    let few = stands-few (stretch bits 0 (a .bits)) (e .standing-bits .result) (a .bits) (e .standing-bits .ensures) (length-stretch bits 0 (a .bits)) (omega (arith, p .0, p .1)) in
-    omega (arith, product-small (a .width - a .bits) (e .standing-bits .result .count) (omega (arith, p .1)) (few .0))
+mul-t8 c = omega (arith, product (c .before))
 
 add-t9 : tie.Need-add-t9
-add-t9 c =
-    let e = c .before .before in
-    let a = e .before .before .args in
-    let p = e .before .before .pre in
-    let bits = take (a .bits) (unpack (a .bytes .now)) in
-    let few = stands-few (stretch bits 0 (a .bits)) (e .standing-bits .result) (a .bits) (e .standing-bits .ensures) (length-stretch bits 0 (a .bits)) (omega (arith, p .0, p .1)) in
-    omega (arith, few .1, product-small (a .width - a .bits) (e .standing-bits .result .count) (omega (arith, p .1)) (few .0))
+add-t9 c = omega (arith, few (c .before .before) .1, product (c .before .before))
 
 returns : tie.Need-returns
 returns c =
