@@ -13,7 +13,7 @@ pub struct Standing {
     pub size: u64,
 }
 
-// Those of a byte.
+// Those of a byte. Bit i is in each of the 8 - i counts from c_i on, and its term has twice as many records.
 fn standing_byte(byte: u8) -> Standing
     ensures { λ r. ⌜ Stands (bitsOf 8 byte) r ⌝ }
 {
