@@ -3,16 +3,15 @@ use mathlib.Core.Path.{_≡_, refl, sym, ap, _∙_}
 use mathlib.Core.Bool.{cond}
 use mathlib.Core.List.{List}
 use Prim.Native.Nat.{ℕ, _-_, _≤_, _<_}
-use native.Mathlib.Decide.{decLt}
 use native.Mathlib.Omega.{arith}
 use borrow.Author.Tests.{ne-eqb}
 use lib.Dec.{leb}
 use lib.ListN.{length, take, drop, List·getD-eq-default}
 use Rattle.literals.specs.Bits.{Bits, unpack}
 use Rattle.literals.specs.Patterns.{Cidr, Exact, IpRange, Pattern, Wildcard}
-use Rattle.literals.specs.Reading.{Read, got, fault, lent, bytesFor}
+use Rattle.literals.specs.Reading.{got, fault, lent, bytesFor}
 use Rattle.literals.specs.Results.{lentAnswer}
-use Rattle.literals.proofs.Values.{lent-named, lent-whole}
+use Rattle.literals.proofs.Values.{lent-whole}
 use Rattle.expr.specs.Answers.{Answer, andThen, mapAnswer, ok, refuse}
 use Rattle.expr.specs.Terms.{Direct, Matches, size}
 use Rattle.desugar.specs.Costs.{cost, patternCost}
@@ -71,31 +70,6 @@ pattern-known p k a b h =
     two (ok u) (ok v) f = refl
     two (ok u) (refuse r q) f = refl
     two (refuse r q) y f = refl
-
--- no refusal has the number 0
-literal-named : (l : List ℕ × ℕ) {r q : ℕ} → lentLiteral l ≡ refuse r q → 1 ≤ r
-literal-named l {r} {q} h = go (lent (l .1) (l .0)) refl h
-  where
-    go : (x : Read Bits) → lent (l .1) (l .0) ≡ x → placed x ≡ refuse r q → 1 ≤ r
-    go (got a bs) f h = let z : _≡_ {A = ℕ} 0 1 = cc in absurd (omega arith)
-    go (fault n) f h = let same : n ≡ r = cc in omega (arith, lent-named (l .0) (l .1) f)
-
-pub pattern-named : (p k : ℕ) (a b : List ℕ × ℕ) {r q : ℕ} → lentPattern p k a b ≡ refuse r q → 1 ≤ r
-pattern-named p k a b {r} {q} h = go (decLt 3 p)
-  where
-    both : (x y : Answer Bits) → lentLiteral a ≡ x → lentLiteral (b .0, cond (leb 2 p) (b .1) 0) ≡ y
-        → andThen x (λ u. andThen y λ v. ok (patternWith p k u v)) ≡ refuse r q → 1 ≤ r
-    both (ok u) (ok v) e f g = let z : _≡_ {A = ℕ} 0 1 = cc in absurd (omega arith)
-    both (ok u) (refuse n t) e f g = let same : n ≡ r = cc in omega (arith, literal-named (b .0, cond (leb 2 p) (b .1) 0) f)
-    both (refuse n t) y e f g = let same : n ≡ r = cc in omega (arith, literal-named a e)
-
-    go : Dec (3 < p) → 1 ≤ r
-    go (yes l) =
-        let far : 4 ≤ p = omega arith in
-        let five : _≡_ {A = Answer Pattern} (refuse 5 0) (refuse r q) = sym (List·getD-eq-default (lentPatterns k a b) (refuse 5 0) far) ∙ h in
-        let same : 5 ≡ r = cc in
-        omega arith
-    go (no l) = both (lentLiteral a) (lentLiteral (b .0, cond (leb 2 p) (b .1) 0)) refl refl (sym (pattern-known p k a b (omega (arith, l))) ∙ h)
 
 module _ (s e p k : ℕ) (a : List ℕ) (n : ℕ) (b : List ℕ) (m : ℕ) where
   pub lent-unknown : 3 < p → refuse 5 0 ≡ lentCost s e p k (a, n) (b, m)

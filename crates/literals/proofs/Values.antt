@@ -188,15 +188,3 @@ module _ (s : List ℕ) (n : ℕ) where
       go (yes h) d = absurd (refused 5 (lent-long h))
       go (no h) (yes k) = absurd (refused 1 (lent-lacking (omega (arith, h)) k))
       go (no h) (no k) = length-take-le n (unpack s) (omega (arith, length-unpack s, k))
-
-  -- and no refusal has the number 0
-  pub lent-named : {r : ℕ} → lent n s ≡ fault r → 1 ≤ r
-  lent-named {r} e = go (decLt maxLiteral n) (decLt (length s) (bytesFor n))
-    where
-      number : (q : ℕ) → lent n s ≡ fault q → q ≡ r
-      number q k = cc
-
-      go : Dec (maxLiteral < n) → Dec (length s < bytesFor n) → 1 ≤ r
-      go (yes h) d = omega (arith, number 5 (lent-long h))
-      go (no h) (yes k) = omega (arith, number 1 (lent-lacking (omega (arith, h)) k))
-      go (no h) (no k) = let f = lent-got (omega (arith, h)) (omega (arith, k)) in let z : _≡_ {A = ℕ} 0 1 = cc in absurd (omega arith)

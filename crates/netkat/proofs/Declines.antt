@@ -1,7 +1,7 @@
 -- By which number and at which place each operation declines: the causes in specs/Demands.antt are exactly the refusals of the definitions,
 -- and no refusal has the number 0.
 use mathlib.Core.Path.{_≡_, refl, sym, ap, subst, _∙_}
-use mathlib.Core.Logic.{_↔_}
+use mathlib.Core.Logic.{_↔_, inl, inr}
 use mathlib.Core.Bool.{Bool, true, false, _&&_, false≢true}
 use mathlib.Core.List.{List, []}
 use Prim.Native.Nat.{ℕ, _+_, _-_, _^_, _≤_, _<_}
@@ -15,7 +15,7 @@ use Rattle.literals.proofs.Logic.{and-iff, false-of, leb-is}
 use Rattle.expr.specs.Answers.{Answer, andThen, mapAnswer, need, ok, refuse}
 use Rattle.expr.specs.Form.{decode, encode, encodeCore, maxDepth, maxRecords}
 use Rattle.expr.specs.Operations.{fieldsBytes, fragmentBytes, intoRoom, isTestFragment, numFields, raised, substitute, substituteBytes}
-use Rattle.expr.specs.Terms.{Direct, Expr, Matches, Name, Ranged, depth, records}
+use Rattle.expr.specs.Terms.{Direct, Expr, Matches, Name, depth, records}
 use Rattle.expr.proofs.Refusals.{decode-numbers}
 use Rattle.desugar.specs.Bindings.{computeSubrange}
 use Rattle.desugar.specs.Claims.{Limit}
@@ -26,12 +26,12 @@ use Rattle.desugar.specs.Negation.{isTest}
 use Rattle.desugar.specs.Rules.{rangeRule}
 use Rattle.desugar.proofs.Limit.{Costs, desugar-costs, drawsOf, gives, limit-of, limited, stops}
 use Rattle.costs.specs.Lent.{lentCost, lentPattern}
-use Rattle.costs.proofs.Lent.{pattern-named}
 use Rattle.netkat.specs.Check.{check, checkBytes, firstFailure, testSort}
-use Rattle.netkat.specs.Claims.{Allowed}
+use Rattle.netkat.specs.Claims.{Allowed, CostNumber}
 use Rattle.netkat.specs.Demands.{CheckDeclined, CostDeclined, DesugarDeclined, FieldsDeclined, InLimits, SubrangeInside, SubstituteDeclined}
 use Rattle.netkat.specs.Points.{walk}
 use Rattle.netkat.proofs.AtPoint.{refusal-of, seen-answer, seen-at}
+use Rattle.netkat.proofs.Costs.{cost-numbers}
 use Rattle.netkat.proofs.HighestField.{first-highest, first-refused, refused-at-first}
 use Rattle.netkat.proofs.Numbers.{Numbered, failure-numbers}
 use Rattle.netkat.proofs.Rules.{same-refusal, then-same}
@@ -117,9 +117,15 @@ module _ (s e p k : ℕ) (a b : List ℕ × ℕ) where
           (ap (λ (x : Answer (Unit {0})). andThen x (λ _. ok (tt {0}))) (refusal-of (patternCost m (e - s)) (rangeRule (Direct s e) (Matches m) (s, e) 0) h))
       back r q (refuse n t) f h = CostDeclined.form r q (f ∙ same-refusal h)
 
+      at-least-one : (r : ℕ) → CostNumber r → 1 ≤ r
+      at-least-one r (inl h) = omega arith
+      at-least-one r (inr (inl h)) = omega arith
+      at-least-one r (inr (inr (inl h))) = omega arith
+      at-least-one r (inr (inr (inr (inl h)))) = omega arith
+      at-least-one r (inr (inr (inr (inr h)))) = omega (arith, h .0)
+
       numbers : (r q : ℕ) → CostDeclined s e p k a b r q → 1 ≤ r
-      numbers r q (CostDeclined.form n t f) = pattern-named p k a b f
-      numbers r q (CostDeclined.rule m n t f h) = failure-named (Ranged (Direct s e) (Matches m)) h
+      numbers r q d = at-least-one r (cost-numbers s e p k a b r q (forth r q d) .0)
 
 -- ## Field count
 

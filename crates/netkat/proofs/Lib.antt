@@ -13,10 +13,10 @@ pub mod Whole
 pub mod OneStepKinds
 pub mod Forms
 pub mod HighestField
+pub mod Costs
 pub mod Declines
 pub mod Demands
 pub mod LongLiterals
-pub mod Costs
 pub mod Theorems
 pub mod HostBounds
 pub mod HostAnswers
