@@ -7,6 +7,7 @@ pub mod Negation
 pub mod Desugar
 pub mod Costs
 pub mod Packets
+pub mod CoreRecords
 pub mod Claims
 pub mod Probes
 pub mod Memory

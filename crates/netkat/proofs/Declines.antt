@@ -4,18 +4,18 @@ use mathlib.Core.Path.{_≡_, refl, sym, ap, subst, _∙_}
 use mathlib.Core.Logic.{_↔_, inl, inr}
 use mathlib.Core.Bool.{Bool, true, false, _&&_, false≢true}
 use mathlib.Core.List.{List, []}
-use Prim.Native.Nat.{ℕ, _+_, _-_, _^_, _≤_, _<_}
+use Prim.Native.Nat.{ℕ, _+_, _-_, _*_, _^_, _≤_, _<_}
 use native.Mathlib.Decide.{decLt}
 use native.Mathlib.Omega.{arith}
 use lib.Dec.{leb, ltb}
 use lib.ListN.{length}
 use borrow.Author.Tests.{lt-leb, lt-ltb, ltb-true}
 use Rattle.literals.specs.Patterns.{Pattern}
-use Rattle.literals.proofs.Logic.{and-iff, false-of, leb-is}
+use Rattle.literals.proofs.Logic.{and-iff, false-of, leb-is, not-le-of}
 use Rattle.expr.specs.Answers.{Answer, andThen, mapAnswer, need, ok, refuse}
-use Rattle.expr.specs.Form.{decode, encode, encodeCore, maxDepth, maxRecords}
+use Rattle.expr.specs.Form.{decode, encode, encodeCore, maxDepth, maxRecords, written}
 use Rattle.expr.specs.Operations.{fieldsBytes, fragmentBytes, intoRoom, isTestFragment, numFields, raised, substitute, substituteBytes}
-use Rattle.expr.specs.Terms.{Direct, Expr, Matches, Name, depth, records}
+use Rattle.expr.specs.Terms.{Core, Direct, Expr, Matches, Name, depth, records, size}
 use Rattle.expr.proofs.Refusals.{decode-numbers}
 use Rattle.desugar.specs.Bindings.{computeSubrange}
 use Rattle.desugar.specs.Claims.{Limit}
@@ -26,13 +26,15 @@ use Rattle.desugar.specs.Negation.{isTest}
 use Rattle.desugar.specs.Rules.{rangeRule}
 use Rattle.desugar.proofs.Limit.{Costs, desugar-costs, drawsOf, gives, limit-of, limited, stops}
 use Rattle.costs.specs.Lent.{lentCost, lentPattern}
+use Rattle.cores.specs.Reading.{decodeCore, intoList, readCore}
+use Rattle.cores.proofs.CorePlaces.{core-numbers}
 use Rattle.netkat.specs.Check.{check, checkBytes, firstFailure, testSort}
-use Rattle.netkat.specs.Claims.{Allowed, CostNumber}
-use Rattle.netkat.specs.Demands.{CheckDeclined, CostDeclined, DesugarDeclined, FieldsDeclined, InLimits, SubrangeInside, SubstituteDeclined}
-use Rattle.netkat.specs.Points.{walk}
+use Rattle.netkat.specs.Claims.{Allowed, CostNumber, FirstHighest}
+use Rattle.netkat.specs.Demands.{CheckDeclined, CoreDeclined, CostDeclined, DesugarDeclined, FieldsDeclined, InLimits, SubrangeInside, SubstituteDeclined}
+use Rattle.netkat.specs.Points.{Point, walk}
 use Rattle.netkat.proofs.AtPoint.{refusal-of, seen-answer, seen-at}
 use Rattle.netkat.proofs.Costs.{cost-numbers}
-use Rattle.netkat.proofs.HighestField.{first-highest, first-refused, refused-at-first}
+use Rattle.netkat.proofs.HighestField.{First, first-highest, first-refused, found, none, refused-at-first}
 use Rattle.netkat.proofs.Numbers.{Numbered, failure-numbers}
 use Rattle.netkat.proofs.Rules.{same-refusal, then-same}
 use Rattle.netkat.proofs.Whole.{by-limits, by-room, not-allowed, rest, too-little-memory, unmapped, within-limits}
@@ -134,18 +136,65 @@ fields-decided bs = decided (FieldsDeclined bs) (fieldsBytes bs) forth (λ k p. 
   where
     forth : (k p : ℕ) → FieldsDeclined bs k p → fieldsBytes bs ≡ refuse k p
     forth k p (FieldsDeclined.form r q f) = ap (λ (x : Answer Expr). andThen x (λ e. numFields e 0)) f
-    forth k p (FieldsDeclined.field e q f m h l) =
-        ap (λ (x : Answer Expr). andThen x (λ e. numFields e 0)) f ∙ refused-at-first (first-highest [] e 0) q m h l
+    forth k p (FieldsDeclined.field e q f h) =
+        ap (λ (x : Answer Expr). andThen x (λ e. numFields e 0)) f ∙ refused-at-first (first-highest [] e 0) q (h .member) (h .highest) (h .least)
 
     back : (k p : ℕ) (x : Answer Expr) → decode bs ≡ x → andThen x (λ e. numFields e 0) ≡ refuse k p → FieldsDeclined bs k p
     back k p (ok e) f h =
         let q = first-refused (first-highest [] e 0) h in
-        subst (λ i. FieldsDeclined bs i p) (q .number) (subst (λ i. FieldsDeclined bs 25 i) (q .place) (FieldsDeclined.field e (q .point) f (q .member) (q .highest) (q .least)))
+        subst (λ i. FieldsDeclined bs i p) (q .number) (subst (λ i. FieldsDeclined bs 25 i) (q .place) (FieldsDeclined.field e (q .point) f (record { member = q .member; highest = q .highest; least = q .least })))
     back k p (refuse q m) f h = FieldsDeclined.form k p (f ∙ same-refusal h)
 
     numbers : (k p : ℕ) → FieldsDeclined bs k p → 1 ≤ k
     numbers k p (FieldsDeclined.form r q f) = decode-numbers bs f .0
-    numbers k p (FieldsDeclined.field e q f m h l) = omega arith
+    numbers k p (FieldsDeclined.field e q f h) = omega arith
+
+-- ## Read core
+
+module _ (bs : List ℕ) (room : ℕ) where
+  abbrev C : ℕ → ℕ → Type 0
+  C k p = CoreDeclined bs room k p
+
+  decoded : {x : Answer Core} → decodeCore bs ≡ x → readCore bs room ≡ andThen x (λ c. intoList c room)
+  decoded f = ap (λ (x : Answer Core). andThen x (λ c. intoList c room)) f
+
+  abbrev listed : Core → Answer ℕ → Bool → Answer (Core × ℕ)
+  listed c x b = andThen x λ n. andThen (need b 10 0) λ _. ok (c, n)
+
+  -- with no highest field there is a count
+  short-list : (c : Core) (x : Answer ℕ) → First (walk [] (written c) 0) x → ((p : Point) → ¬ FirstHighest (written c) p) → listed c x false ≡ refuse 10 0
+  short-list c x (none n h) k = refl
+  short-list c x (found p m h l) k = absurd (k p (record { member = m; highest = h; least = l }))
+
+  core-forth : (k p : ℕ) → C k p → readCore bs room ≡ refuse k p
+  core-forth k p (CoreDeclined.form r q f) = decoded f
+  core-forth k p (CoreDeclined.field c q f h) =
+      decoded f
+      ∙ ap (λ (x : Answer ℕ). listed c x (leb (3 * size c) room)) (refused-at-first (first-highest [] (written c) 0) q (h .member) (h .highest) (h .least))
+  core-forth k p (CoreDeclined.short c f h l) =
+      decoded f ∙ ap (listed c (numFields (written c) 0)) (lt-leb (3 * size c) room l) ∙ short-list c (numFields (written c) 0) (first-highest [] (written c) 0) h
+
+  core-back : (k p : ℕ) → readCore bs room ≡ refuse k p → C k p
+  core-back k p h = read (decodeCore bs) refl (sym (decoded refl) ∙ h)
+    where
+      named : (c : Core) → decodeCore bs ≡ ok c → (x : Answer ℕ) → First (walk [] (written c) 0) x → (b : Bool) → leb (3 * size c) room ≡ b
+          → listed c x b ≡ refuse k p → C k p
+      named c f x (found q m h l) b e j = at-refusal C j (CoreDeclined.field c q f (record { member = m; highest = h; least = l }))
+      named c f x (none n h) true e j = absurd (ok-is-no-refusal j)
+      named c f x (none n h) false e j =
+          at-refusal C j (CoreDeclined.short c f (λ p g. h p (g .member) (g .highest)) (not-le-of (3 * size c) room e))
+
+      read : (x : Answer Core) → decodeCore bs ≡ x → andThen x (λ c. intoList c room) ≡ refuse k p → C k p
+      read (ok c) f j = named c f (numFields (written c) 0) (first-highest [] (written c) 0) (leb (3 * size c) room) refl j
+      read (refuse q m) f j = at-refusal C j (CoreDeclined.form q m f)
+
+  core-named : (k p : ℕ) → C k p → 1 ≤ k
+  core-named k p (CoreDeclined.form r q f) = core-numbers bs f
+  core-named k p (CoreDeclined.field c q f h) = omega arith
+  core-named k p (CoreDeclined.short c f h l) = omega arith
+
+  pub core-decided : Decided C (readCore bs room)
+  core-decided = decided C (readCore bs room) core-forth core-back core-named
 
 -- ## Subrange
 

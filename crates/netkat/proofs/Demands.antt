@@ -10,22 +10,24 @@ use Rattle.literals.proofs.Logic.{leb-is}
 use Rattle.expr.specs.Answers.{Answer, andThen, bufferAfter, mapAnswer, ok, refuse}
 use Rattle.expr.specs.Form.{Within, encode, encodeCore}
 use Rattle.expr.specs.Operations.{fieldsBytes, fragmentBytes, substituteBytes}
-use Rattle.expr.specs.Terms.{Core, Expr}
+use Rattle.expr.specs.Terms.{Core, Expr, size}
 use Rattle.expr.proofs.FormTheorem.{decode-encode}
 use Rattle.desugar.specs.Bindings.{computeSubrange}
+use Rattle.desugar.specs.CoreRecords.{words}
 use Rattle.desugar.specs.Desugar.{desugar, desugarBytes}
 use Rattle.desugar.specs.Meter.{drawn}
 use Rattle.desugar.specs.Packets.{Others}
 use Rattle.desugar.proofs.Limit.{Costs, desugar-costs, drawsOf, gives, limit-of, stops}
 use Rattle.costs.specs.Lent.{lentCost}
+use Rattle.cores.specs.Reading.{readCore}
 use Rattle.netkat.specs.Check.{RulesHold, checkBytes, testSort}
 use Rattle.netkat.specs.Claims.{Desugared, Desugars, Good}
 use Rattle.netkat.specs.Demands.{AtPassing, Covers, Declined, Demand1, Demand2, Demand3, OnGood, WholeTerm}
-use Rattle.netkat.specs.Entry.{Answers, Call, Check, Cost, Desugar, FieldCount, Hosts, Subrange, Substitute, TestFragment, halved, hosted}
+use Rattle.netkat.specs.Entry.{Answers, Call, Check, Cost, Desugar, FieldCount, Hosts, ReadCore, Subrange, Substitute, TestFragment, halved, hosted}
 use Rattle.netkat.specs.Points.{Point, definitions, desugarAt}
 use Rattle.netkat.specs.declared.Answer.{Answer as HostAnswer}
 use Rattle.netkat.proofs.AtPoint.{desugar-at-means, desugar-at-succeeds}
-use Rattle.netkat.proofs.Declines.{Decided, check-decided, cost-decided, decided-map, desugar-decided, fields-decided, fragment-decided, subrange-decided, substitute-decided}
+use Rattle.netkat.proofs.Declines.{Decided, check-decided, core-decided, cost-decided, decided-map, desugar-decided, fields-decided, fragment-decided, subrange-decided, substitute-decided}
 use Rattle.netkat.proofs.Forms.{each-form}
 use Rattle.netkat.proofs.OneStepKinds.{one-step-kinds}
 use Rattle.netkat.proofs.Whole.{check-bytes, desugar-bytes, desugared-bytes, rest, within-limits}
@@ -93,6 +95,9 @@ each-call (Subrange a b s e) out out′ r h =
     map-same (ok v) = refl
     map-same (refuse k p) = refl
 each-call (Cost s e p k a b) out out′ r h = hosted-demand halved r (lentCost s e p k a b) (cost-decided s e p k a b) (h .0) out out′ (λ q m f. h .1)
+each-call (ReadCore bs) out out′ r h =
+    hosted-demand (λ p. (size (p .0), p .1)) r (readCore bs (length out)) (core-decided bs (length out)) (h .answer) out out′
+    (λ q m e. h .records ∙ ap (λ (y : Answer (Core × ℕ)). bufferAfter (mapAnswer (λ p. words (p .0)) y) out) e)
 
 -- no refusal has the number 0
 cause-named : {A : Type 0} {D : ℕ → ℕ → Type 0} {x : Answer A} → Decided D x → (k p : ℕ) → D k p → 1 ≤ k
@@ -106,6 +111,7 @@ never-zero (Desugar bs n work) room = cause-named (desugar-decided bs n work roo
 never-zero (Substitute bs x rs) room = cause-named (substitute-decided bs x rs room)
 never-zero (Subrange a b s e) room = cause-named (subrange-decided a b s e)
 never-zero (Cost s e p k a b) room = cause-named (cost-decided s e p k a b)
+never-zero (ReadCore bs) room = cause-named (core-decided bs room)
 
 -- ## Demand 2
 
@@ -151,6 +157,19 @@ take-front : (bs cs : List ℕ) → take (length bs) (bs ++ cs) ≡ bs
 take-front [] cs = refl
 take-front (b ∷ bs) cs = ap (λ (l : List ℕ). b ∷ l) (take-front bs cs)
 
+-- on success the buffer's front and the second value are what Desugar gave
+pub desugar-wrote : (bs : List ℕ) (n work : ℕ) (out out′ : List ℕ) (r : HostAnswer) → Answers (Desugar bs n work) out out′ r → r .number ≡ 0
+    → desugarBytes bs n work (length out) ≡ ok (take (r .first) out′, r .second)
+desugar-wrote bs n work out out′ r h z =
+    let k = succeeds (λ p. (length (p .0), p .1)) r (desugarBytes bs n work (length out)) (desugar-decided bs n work (length out)) (h .answer) .0 z in
+    let cs : List ℕ = k .0 .0 in
+    let answer = h .answer ∙ ap (λ (y : Answer (List ℕ × ℕ)). hosted (mapAnswer (λ p. (length (p .0), p .1)) y)) (k .1) in
+    let first : r .first ≡ length cs = ap (λ (y : HostAnswer). y .first) answer in
+    let second : r .second ≡ k .0 .1 = ap (λ (y : HostAnswer). y .second) answer in
+    let buffer : out′ ≡ cs ++ drop (length cs) out = h .buffer ∙ ap (λ (y : Answer (List ℕ × ℕ)). bufferAfter (mapAnswer (λ p. p .0) y) out) (k .1) in
+    let front : take (r .first) out′ ≡ cs = (λ i. take (first i) (buffer i)) ∙ take-front cs (drop (length cs) out) in
+    k .1 ∙ λ i. ok (sym front i, sym second i)
+
 module _ (bs : List ℕ) (n work : ℕ) (out out′ : List ℕ) (checked desugared : HostAnswer)
     (hc : Answers (Check bs) [] [] checked) (hd : Answers (Desugar bs n work) out out′ desugared) where
   check-hosted : (checked .number ≡ 0) ↔ ((e : Expr) × Good bs e)
@@ -174,19 +193,8 @@ module _ (bs : List ℕ) (n work : ℕ) (out out′ : List ℕ) (checked desugar
         hosts = hd;
       }
 
-  -- the buffer's front after a success
-  front : (a : List ℕ × ℕ) → desugarBytes bs n work (length out) ≡ ok a → Desugared bs (take (desugared .first) out′) (desugared .second)
-  front a f =
-      let answer = hd .answer ∙ ap (λ (y : Answer (List ℕ × ℕ)). hosted (mapAnswer (λ p. (length (p .0), p .1)) y)) f in
-      let first : desugared .first ≡ length (a .0) = ap (λ (y : HostAnswer). y .first) answer in
-      let second : desugared .second ≡ a .1 = ap (λ (y : HostAnswer). y .second) answer in
-      let buffer : out′ ≡ a .0 ++ drop (length (a .0)) out = hd .buffer ∙ ap (λ (y : Answer (List ℕ × ℕ)). bufferAfter (mapAnswer (λ p. p .0) y) out) f in
-      rw (first, second, buffer, take-front (a .0) (drop (length (a .0)) out)) (desugared-bytes bs n work (length out) (a .0) (a .1) f)
-
   wrote : desugared .number ≡ 0 → Desugared bs (take (desugared .first) out′) (desugared .second)
-  wrote z =
-      let k = succeeds (λ p. (length (p .0), p .1)) desugared (desugarBytes bs n work (length out)) (desugar-decided bs n work (length out)) (hd .answer) .0 z in
-      front (k .0) (k .1)
+  wrote z = desugared-bytes bs n work (length out) _ _ (desugar-wrote bs n work out out′ desugared hd z)
 
   whole-term : WholeTerm bs n work out out′ checked desugared
   whole-term =

@@ -17,6 +17,7 @@ pub mod Costs
 pub mod Declines
 pub mod Demands
 pub mod LongLiterals
+pub mod ReadBack
 pub mod Theorems
 pub mod HostBounds
 pub mod HostAnswers

@@ -1,7 +1,7 @@
 -- The theorems on the definitions: the three demands, then what stands behind them. A reviewer reads the statements here first; each proof
 -- is a few lines that cite the laws beside this file and in the crates below. The definitions that a statement uses stand in specs/; only
 -- the host's struct, HostAnswer, is declared in src/lib.rt.
-use mathlib.Core.Path.{_≡_, refl, subst, _∙_}
+use mathlib.Core.Path.{_≡_, refl, ap, subst, _∙_}
 use mathlib.Core.Logic.{_↔_}
 use mathlib.Core.Bool.{Bool, true, false, cond, not}
 use mathlib.Core.Option.{some}
@@ -9,7 +9,7 @@ use mathlib.Core.List.{List, [], _∷_, map, List·Memᴰ}
 use Prim.Native.Nat.{ℕ, _+_, _-_, _^_, _≤_, _<_}
 use native.Mathlib.Nat.{zero-add}
 use lib.Dec.{leb}
-use lib.ListN.{length, getD, replicate}
+use lib.ListN.{length, getD, replicate, take}
 use Rattle.literals.specs.Bits.{Bits, Bytes, bitsOf}
 use Rattle.literals.specs.Comparing.{SameTop, StopsWhenDecided, lookedAt}
 use Rattle.literals.specs.Patterns.{IpRange, Pattern}
@@ -17,12 +17,13 @@ use Rattle.literals.specs.Reading.{fault, literal}
 use Rattle.literals.proofs.Codec.{literal-limit}
 use Rattle.literals.proofs.Comparing.{looked-first, looked-none, stops-when-decided}
 use Rattle.expr.specs.Answers.{mapAnswer, ok, refuse}
-use Rattle.expr.specs.Form.{Within, decode, encode}
+use Rattle.expr.specs.Form.{Fits, Within, decode, encode, encodeCore, written}
 use Rattle.expr.specs.Operations.{fieldsBytes, substituteBytes}
-use Rattle.expr.specs.Terms.{Alias, Core, Direct, Expr, LetBitRange, Matches, Name, Plain, Ranged, Star, Test, Tests, Unary, Use, Var, Where, records}
+use Rattle.expr.specs.Terms.{Alias, Assign, Core, Direct, Expr, Intersect, LetBitRange, Matches, Name, Plain, Ranged, Star, Test, Tests, Unary, Use, Var, Where, Zero, leaf, one, records, size, two}
 use Rattle.expr.proofs.FormTheorem.{bytes-of-encode, decode-encode, form-exact}
 use Rattle.desugar.specs.Bindings.{Env, computeSubrange, findRange}
 use Rattle.desugar.specs.Claims.{Limit, drawnTotal}
+use Rattle.desugar.specs.CoreRecords.{words}
 use Rattle.desugar.specs.Costs.{cost}
 use Rattle.desugar.specs.Desugar.{desugar, desugarBytes}
 use Rattle.desugar.specs.Meter.{left}
@@ -32,10 +33,13 @@ use Rattle.desugar.proofs.Costs.{cost-is-draw, cost-spends, range-draws-most}
 use Rattle.desugar.proofs.Limit.{limit}
 use Rattle.desugar.proofs.Probes.{further-probes, longer-probes, refused-probes, starred-probes, too-long-probes}
 use Rattle.costs.specs.Lent.{lentCost}
+use Rattle.cores.specs.Reading.{CoreWithin, decodeCore, intoList, readCore}
+use Rattle.cores.proofs.CoreForm.{core-exact, decode-many, equal-records, read-back}
+use Rattle.cores.proofs.CoreTerms.{core-is-term, same-fields}
 use Rattle.netkat.specs.Check.{RulesHold, check, checkBytes, firstFailure, testSort}
 use Rattle.netkat.specs.Claims.{Accepted, AtPoint, CostNumber, Desugared, Desugars, Good, Inside, PointAt, RangeLimit, Refusal, TakesWhole}
 use Rattle.netkat.specs.Demands.{Declined, Demand1, Demand2, Demand3}
-use Rattle.netkat.specs.Entry.{Answers, Call}
+use Rattle.netkat.specs.Entry.{Answers, Call, HostsCore}
 use Rattle.netkat.specs.Points.{Point, Scope, definitions, desugarAt, walk}
 use Rattle.netkat.specs.declared.Answer.{Answer as HostAnswer}
 use Rattle.netkat.proofs.AtPoint.{desugar-at-answers, desugar-at-means, desugar-at-succeeds}
@@ -44,6 +48,7 @@ use Rattle.netkat.proofs.Demands.{each-call, never-zero, points-and-who
 use Rattle.netkat.proofs.Inside.{each-record, inside-points, walk-inside, walk-length}
 use Rattle.netkat.proofs.LongLiterals.{accepted-alias, accepted-direct, range-alias, range-direct}
 use Rattle.netkat.proofs.Numbers.{Numbered, desugar-at-numbers}
+use Rattle.netkat.proofs.ReadBack.{made, made-reads, stored-reads}
 use Rattle.netkat.proofs.Rules.{behind-rule, none-fails, rules-append}
 use Rattle.netkat.proofs.Whole.{check-bytes, desugar-bytes, desugared-bytes, refused-bytes}
 
@@ -183,6 +188,73 @@ pub other-refusals-theorem : (fieldsBytes (encode (Plain (Test 4294967295 true))
     × (substituteBytes (encode (Unary Star (Var 1))) 1 (stars 255 (0 ∷ [])) 0 ≡ refuse 27 0)
     × (substituteBytes (encode (Var 1)) 1 (1 ∷ 1 ∷ []) 1 ≡ refuse 26 0)
 other-refusals-theorem = (refl, refl, refl, refl, refl, refl, refl)
+
+-- ## Change 1 of document 02: cores read back (cores/specs/Reading.antt)
+
+-- A list of bytes is read as a core exactly if it is the encoding of that core, within the limits ("up to 65,535 records at any depth", fields of
+-- four bytes: cores/specs/Reading.antt: CoreWithin): nothing is read in two ways
+pub core-form-theorem : (bs : List ℕ) (c : Core) → Bytes bs → (decodeCore bs ≡ ok c) ↔ (CoreWithin c × (bs ≡ encodeCore c))
+core-form-theorem = core-exact
+
+-- the bytes of any such core read back to it, "unless 25 or 10 applies" (cores/specs/Reading.antt: intoList)
+pub read-back-theorem : (c : Core) → CoreWithin c → (room : ℕ) → readCore (encodeCore c) room ≡ intoList c room
+read-back-theorem = read-back
+
+-- "A core written by desugaring, unless 25 or 10 applies, reads back to the tree it came from": to the core made without limit, which Desugar wrote
+-- (specs/Claims.antt: Desugared)
+pub desugared-reads-back-theorem : (bs : List ℕ) → Bytes bs → (n work room : ℕ) (out : List ℕ) (m : ℕ) → desugarBytes bs n work room ≡ ok (out, m)
+    → (d : Desugared bs out m) × ((list : ℕ) → readCore out list ≡ intoList (d .core) list)
+desugared-reads-back-theorem bs b n work room out m h = (made bs b n work room out m h, made-reads bs b n work room out m h)
+
+-- and of what a host gets: where Desugar succeeded, the front of its buffer, whenever it is read, gives the records of that core, their count
+-- and its field count, or 25 or 10
+pub stored-theorem : (bs : List ℕ) → Bytes bs → (n work : ℕ) (out out′ : List ℕ) (d : HostAnswer) → Answers (Call.Desugar bs n work) out out′ d → d .number ≡ 0
+    → (t : Desugared bs (take (d .first) out′) (d .second))
+    × ((list list′ : List ℕ) (r : HostAnswer) → Answers (Call.ReadCore (take (d .first) out′)) list list′ r → HostsCore (intoList (t .core) (length list)) list list′ r)
+stored-theorem = stored-reads
+
+-- "two core byte strings that read to equal trees are equal": and so are two that give equal records
+pub equal-trees-theorem : (bs cs : List ℕ) (room space : ℕ) (r s : Core × ℕ) → Bytes bs → Bytes cs → readCore bs room ≡ ok r → readCore cs space ≡ ok s
+    → (r .0 ≡ s .0 → bs ≡ cs) × (words (r .0) ≡ words (s .0) → bs ≡ cs)
+equal-trees-theorem bs cs room space r s b c d e =
+    let same = equal-records bs cs room space r s b c d e in
+    ((λ h. same (ap words h)), same)
+
+-- "42, more than 65,535 records": at the record behind these, whatever the core
+pub too-many-theorem : (c : Core) → Fits (written c) → 65535 < size c → decodeCore (encodeCore c) ≡ refuse 42 65535
+too-many-theorem = decode-many
+
+-- bytes that are a core's and also a term's are of the term that is that core, written; so Field count gives the same count
+pub core-fields-theorem : (bs : List ℕ) → Bytes bs
+    → ((c : Core) (e : Expr) → decodeCore bs ≡ ok c → decode bs ≡ ok e → e ≡ written c)
+    × ((room : ℕ) (r : Core × ℕ) (m : ℕ) → readCore bs room ≡ ok r → fieldsBytes bs ≡ ok m → r .1 ≡ m)
+core-fields-theorem bs b = ((λ c e. core-is-term bs c e b), (λ room r m. same-fields bs room r m b))
+
+-- the core of the first starred probe, with its records; 3 for each record, and no more, are asked for
+pub core-read-theorem : (readCore (1 ∷ 8 ∷ 33 ∷ 6 ∷ 1 ∷ 5 ∷ 6 ∷ 1 ∷ 0 ∷ 0 ∷ 0 ∷ []) 9 ≡ ok (two Intersect (leaf (Test 0 true)) (leaf (Test 1 false)), 2))
+    × (words (two Intersect (leaf (Test 0 true)) (leaf (Test 1 false))) ≡ 8 ∷ 0 ∷ 0 ∷ 6 ∷ 0 ∷ 1 ∷ 6 ∷ 1 ∷ 0 ∷ [])
+    × (readCore (0 ∷ []) 3 ≡ ok (leaf Zero, 0))
+    × (readCore (1 ∷ 14 ∷ 5 ∷ 5 ∷ 254 ∷ 255 ∷ 255 ∷ 255 ∷ []) 6 ≡ ok (one Star (leaf (Assign 4294967294 false)), 4294967295))
+core-read-theorem = (refl, refl, refl, refl)
+
+-- each refusal by small bytes, most with the next one's cause as well: 1 before and in the kind, 4, 2, 41 of the kinds 16 and 26, 3, in the field 1
+-- and 4, 5; 1 at the second operand, 41 at the first; 8; 25 at the first of two; 10
+pub core-refusals-theorem : (readCore [] 0 ≡ refuse 1 0)
+    × (readCore (3 ∷ []) 0 ≡ refuse 1 0)
+    × (readCore (3 ∷ 0 ∷ []) 0 ≡ refuse 4 0)
+    × (readCore (3 ∷ 27 ∷ []) 0 ≡ refuse 2 0)
+    × (readCore (3 ∷ 16 ∷ []) 0 ≡ refuse 41 0)
+    × (readCore (3 ∷ 26 ∷ []) 0 ≡ refuse 41 0)
+    × (readCore (7 ∷ 6 ∷ 0 ∷ []) 0 ≡ refuse 3 0)
+    × (readCore (37 ∷ 6 ∷ 0 ∷ 0 ∷ 0 ∷ []) 0 ≡ refuse 1 0)
+    × (readCore (37 ∷ 6 ∷ 0 ∷ 0 ∷ 0 ∷ 0 ∷ 2 ∷ []) 0 ≡ refuse 4 0)
+    × (readCore (33 ∷ 6 ∷ 2 ∷ 0 ∷ []) 0 ≡ refuse 5 0)
+    × (readCore (1 ∷ 8 ∷ 0 ∷ []) 0 ≡ refuse 1 2)
+    × (readCore (1 ∷ 8 ∷ 1 ∷ 16 ∷ []) 0 ≡ refuse 41 1)
+    × (readCore (5 ∷ 6 ∷ 255 ∷ 255 ∷ 255 ∷ 255 ∷ 0 ∷ []) 0 ≡ refuse 8 1)
+    × (readCore (1 ∷ 8 ∷ 5 ∷ 6 ∷ 255 ∷ 255 ∷ 255 ∷ 255 ∷ 5 ∷ 5 ∷ 255 ∷ 255 ∷ 255 ∷ 255 ∷ []) 0 ≡ refuse 25 1)
+    × (readCore (1 ∷ 8 ∷ 0 ∷ 0 ∷ []) 8 ≡ refuse 10 0)
+core-refusals-theorem = (refl, refl, refl, refl, refl, refl, refl, refl, refl, refl, refl, refl, refl, refl, refl)
 
 -- ## Change 2 of document 02: comparing bounds (literals/specs/Comparing.antt)
 

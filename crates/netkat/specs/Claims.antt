@@ -49,6 +49,12 @@ HighestField (LetBitRange x s e b) = ⊥
 HighestField (Var x) = ⊥
 HighestField (Ranged w u) = ⊥
 
+-- "the first Assign or Test of field 4,294,967,295" of a term
+pub record FirstHighest (e : Expr) (p : Point) : Type 0 where
+  pub member : List·Memᴰ p (walk [] e 0)
+  pub highest : HighestField (p .term)
+  pub least : (q : Point) → List·Memᴰ q (walk [] e 0) → HighestField (q .term) → p .place ≤ q .place
+
 -- "Kinds": the kind of the record that a term begins with
 abbrev pub kindOf : Expr → ℕ
 kindOf (Plain a) = atomKind a

@@ -1,13 +1,14 @@
 -- The three demands, each as one record; proofs/Theorems.antt proves each. The words of the demands and of document 01 stand in quotation
 -- marks. "Every call on any bytes ends." has no field: the prover shows it of each function.
 use mathlib.Core.{Path._≡_, Logic._↔_, Bool.false, Option.some, List.List, List.[], List.List·Memᴰ}
-use Prim.Native.Nat.{ℕ, _+_, _-_, _^_, _≤_, _<_}
+use Prim.Native.Nat.{ℕ, _+_, _-_, _*_, _^_, _≤_, _<_}
 use lib.{ListN.length, ListN.take, ListN.getD}
 use Rattle.literals.specs.{Bits.Bits, Bits.bitAt, Bits.valueOf, Patterns.Pattern, Patterns.Exact, Patterns.Cidr, Patterns.Wildcard, Patterns.IpRange}
-use Rattle.expr.specs.{Answers.Answer, Answers.ok, Answers.refuse, Answers.mapAnswer, Terms.Core, Terms.Name, Terms.Expr, Terms.Ranged, Terms.Where, Terms.Direct, Terms.Assigns, Terms.Tests, Terms.Matches, Terms.records, Terms.depth, Form.decode, Form.encode, Form.encodeCore, Form.maxRecords, Form.maxDepth, Form.Within, Operations.substitute}
+use Rattle.expr.specs.{Answers.Answer, Answers.ok, Answers.refuse, Answers.mapAnswer, Terms.Core, Terms.Name, Terms.size, Terms.Expr, Terms.Ranged, Terms.Where, Terms.Direct, Terms.Assigns, Terms.Tests, Terms.Matches, Terms.records, Terms.depth, Form.decode, Form.encode, Form.written, Form.encodeCore, Form.maxRecords, Form.maxDepth, Form.Within, Operations.substitute}
 use Rattle.desugar.specs.{Bindings.findRange, Meter.drawn, Meter.overdrawn, Desugar.workFor, Packets.Others, Packets.Packet, Packets.coreMeans, Claims.Limit, Claims.TestsFor, Claims.Sets}
 use Rattle.costs.specs.{Lent.lentPattern}
-use Rattle.netkat.specs.{Points.Scope, Points.Point, Points.walk, Points.definitions, Points.desugarAt, Points.meansAt, Check.RulesHold, Check.firstFailure, Entry.hosted, Entry.Hosts, Entry.Call, Entry.Check, Entry.TestFragment, Entry.FieldCount, Entry.Desugar, Entry.Substitute, Entry.Subrange, Entry.Cost, Entry.Answers, Claims.HighestField, Claims.OneStepKinds, Claims.Good, Claims.Allowed, Claims.Unlimited, Claims.Outcome, Claims.Desugared}
+use Rattle.cores.specs.{Reading.decodeCore}
+use Rattle.netkat.specs.{Points.Scope, Points.Point, Points.walk, Points.definitions, Points.desugarAt, Points.meansAt, Check.RulesHold, Check.firstFailure, Entry.hosted, Entry.Hosts, Entry.Call, Entry.Check, Entry.TestFragment, Entry.FieldCount, Entry.Desugar, Entry.Substitute, Entry.Subrange, Entry.Cost, Entry.ReadCore, Entry.Answers, Claims.FirstHighest, Claims.OneStepKinds, Claims.Good, Claims.Allowed, Claims.Unlimited, Claims.Outcome, Claims.Desugared}
 use Rattle.netkat.specs.declared.Answer.{Answer as HostAnswer}
 
 -- ## Demand 1: what is refused
@@ -20,8 +21,7 @@ pub data CheckDeclined (bs : List ℕ) : (number place : ℕ) → Type 0 where
 -- Field count: "form, then 25 at the first Assign or Test of field 4,294,967,295"
 pub data FieldsDeclined (bs : List ℕ) : (number place : ℕ) → Type 0 where
   form : (r p : ℕ) → decode bs ≡ refuse r p → FieldsDeclined bs r p
-  field : (e : Expr) (p : Point) → decode bs ≡ ok e → List·Memᴰ p (walk [] e 0) → HighestField (p .term)
-      → ((q : Point) → List·Memᴰ q (walk [] e 0) → HighestField (q .term) → p .place ≤ q .place) → FieldsDeclined bs 25 (p .place)
+  field : (e : Expr) (p : Point) → decode bs ≡ ok e → FirstHighest e p → FieldsDeclined bs 25 (p .place)
 
 -- Desugar: "9 allowance ..; 10 work memory ..; form; rules and 24 in walking order; 26 encoded core longer than the answer buffer"
 pub data DesugarDeclined (bs : List ℕ) (n work room : ℕ) : (number place : ℕ) → Type 0 where
@@ -63,8 +63,16 @@ pub data CostDeclined (s e p k : ℕ) (a b : List ℕ × ℕ) : (number place : 
   rule : (m : Pattern) (r q : ℕ) → lentPattern p k a b ≡ ok m → firstFailure (walk [] (Ranged (Direct s e) (Matches m)) 0) ≡ refuse r q
       → CostDeclined s e p k a b r q
 
--- "each by its number and place in document 01": a call with an answer buffer of room bytes is to be refused by a number at a place. Those of
--- form are `decode`'s (expr/specs/Form) and `lentPattern`'s (costs/specs/Lent), those of the rules `ruleAt`'s (Check)
+-- Read core (document 02, change 1): "Form refusals hold as for terms, without 6 and 7, and 25 follows them for the top field. A lent record list
+-- with under three numbers for each record is 10, last."
+pub data CoreDeclined (bs : List ℕ) (room : ℕ) : (number place : ℕ) → Type 0 where
+  form : (r p : ℕ) → decodeCore bs ≡ refuse r p → CoreDeclined bs room r p
+  field : (c : Core) (p : Point) → decodeCore bs ≡ ok c → FirstHighest (written c) p → CoreDeclined bs room 25 (p .place)
+  short : (c : Core) → decodeCore bs ≡ ok c → ((p : Point) → ¬ FirstHighest (written c) p) → room < 3 * size c → CoreDeclined bs room 10 0
+
+-- "each by its number and place in document 01": a call with an answer buffer of room bytes, or a list of room numbers, is to be refused by a
+-- number at a place. Those of form are `decode`'s (expr/specs/Form), `lentPattern`'s (costs/specs/Lent) and `decodeCore`'s
+-- (cores/specs/Reading), those of the rules `ruleAt`'s (Check)
 abbrev pub Declined : Call → (room number place : ℕ) → Type 0
 Declined (Check bs) room r p = CheckDeclined bs r p
 Declined (TestFragment bs) room r p = decode bs ≡ refuse r p
@@ -73,6 +81,7 @@ Declined (Desugar bs n work) room r p = DesugarDeclined bs n work room r p
 Declined (Substitute bs x rs) room r p = SubstituteDeclined bs x rs room r p
 Declined (Subrange a b s e) room r p = ¬ SubrangeInside a b s e × (r ≡ 28) × (p ≡ 0)
 Declined (Cost s e p k a b) room r q = CostDeclined s e p k a b r q
+Declined (ReadCore bs) room r p = CoreDeclined bs room r p
 
 -- of an answer r, and the answer buffer before and after the call; declined says by which number and place the call is to be refused
 pub record Demand1 (declined : (number place : ℕ) → Type 0) (out out′ : List ℕ) (r : HostAnswer) : Type 0 where

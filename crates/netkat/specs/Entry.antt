@@ -3,9 +3,10 @@ use mathlib.Core.{Path._≡_, List.List}
 use Prim.Native.Nat.{ℕ, _+_, _*_, _/_, _%_, _^_}
 use lib.{ListN.length}
 use Rattle.literals.specs.{Bits.bit}
-use Rattle.expr.specs.{Answers.Answer, Answers.ok, Answers.refuse, Answers.mapAnswer, Answers.bufferAfter, Terms.Name, Operations.fragmentBytes, Operations.fieldsBytes, Operations.substituteBytes}
-use Rattle.desugar.specs.{Bindings.computeSubrange, Desugar.desugarBytes}
+use Rattle.expr.specs.{Answers.Answer, Answers.ok, Answers.refuse, Answers.mapAnswer, Answers.bufferAfter, Terms.Core, Terms.Name, Terms.size, Operations.fragmentBytes, Operations.fieldsBytes, Operations.substituteBytes}
+use Rattle.desugar.specs.{Bindings.computeSubrange, Desugar.desugarBytes, CoreRecords.words}
 use Rattle.costs.specs.{Lent.lentCost}
+use Rattle.cores.specs.{Reading.readCore}
 use Rattle.netkat.specs.{Check.checkBytes}
 use Rattle.netkat.specs.declared.Answer.{Answer as HostAnswer}
 
@@ -24,6 +25,12 @@ pub record Hosts (x : Answer (List ℕ × ℕ)) (out out′ : List ℕ) (r : Hos
 abbrev pub halved : ℕ → ℕ × ℕ
 halved n = (n % 2 ^ 32, n / 2 ^ 32)
 
+-- document 02, change 1: of a core and its field count x: "giving the records (kind, field, value, a 32-bit number each), their count and the field
+-- count". out and out′ are the lent record list before and after the call
+pub record HostsCore (x : Answer (Core × ℕ)) (out out′ : List ℕ) (r : HostAnswer) : Type 0 where
+  pub answer : r ≡ hosted (mapAnswer (λ p. (size (p .0), p .1)) x)
+  pub records : out′ ≡ bufferAfter (mapAnswer (λ p. words (p .0)) x) out
+
 -- a call of an exported function, with the bytes and numbers that it is given; of work memory, its length; of a lent
 -- literal, its bytes and its length in bits
 pub data Call : Type 0 where
@@ -32,9 +39,10 @@ pub data Call : Type 0 where
   Substitute : (term : List ℕ) (name : Name) (replacement : List ℕ) → Call
   Subrange : (aliasStart aliasEnd subStart subEnd : ℕ) → Call
   Cost : (start end pattern number : ℕ) (a b : List ℕ × ℕ) → Call
+  ReadCore : (core : List ℕ) → Call
 
--- the contract of each exported function: r is its answer, out and out′ its answer buffer before and after the call. One without a buffer is
--- lent nothing that it could write. The first value of Check and Test fragment is 1 for yes and 0 for no
+-- the contract of each exported function: r is its answer, out and out′ its answer buffer, or its record list, before and after the call. One
+-- without either is lent nothing that it could write. The first value of Check and Test fragment is 1 for yes and 0 for no
 abbrev pub Answers : Call → (out out′ : List ℕ) → HostAnswer → Type 0
 Answers (Check bs) out out′ r = (r ≡ hosted (mapAnswer (λ b. (bit b, 0)) (checkBytes bs))) × (out′ ≡ out)
 Answers (TestFragment bs) out out′ r = (r ≡ hosted (mapAnswer (λ b. (bit b, 0)) (fragmentBytes bs))) × (out′ ≡ out)
@@ -43,7 +51,8 @@ Answers (Desugar bs n work) out out′ r = Hosts (desugarBytes bs n work (length
 Answers (Substitute bs x rs) out out′ r = Hosts (mapAnswer (λ cs. (cs, 0)) (substituteBytes bs x rs (length out))) out out′ r
 Answers (Subrange a b s e) out out′ r = (r ≡ hosted (computeSubrange a b s e)) × (out′ ≡ out)
 Answers (Cost s e p k a b) out out′ r = (r ≡ hosted (mapAnswer halved (lentCost s e p k a b))) × (out′ ≡ out)
+Answers (ReadCore bs) out out′ r = HostsCore (readCore bs (length out)) out out′ r
 
--- this library's version, 0.3.0, as one number, for a host to compare with that of its header. Ours: no sentence of document 01 asks for it
+-- this library's version, 0.4.0, as one number, for a host to compare with that of its header. Ours: no sentence of document 01 asks for it
 abbrev pub version : ℕ
-version = 0 * 65536 + 3 * 256 + 0
+version = 0 * 65536 + 4 * 256 + 0

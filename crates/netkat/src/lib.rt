@@ -3,6 +3,7 @@ mod answers;
 mod check;
 pub mod cost;
 pub mod operations;
+pub mod records;
 
 ghost use mathlib.Core.Path.{_≡_};
 ghost use mathlib.Core.List.{[]};
@@ -50,5 +51,5 @@ pub extern "C" fn netkat_compute_subrange(
 pub extern "C" fn netkat_version() -> u32
     ensures { λ r. ⌜ r ≡ version ⌝ }
 {
-    768
+    1024
 }

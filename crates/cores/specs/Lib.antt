@@ -1,0 +1,3 @@
+-- Cores read back from their bytes. Read in this order.
+pub mod Reading
+pub mod Results
