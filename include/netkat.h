@@ -2,16 +2,16 @@
  *
  * Terms and cores are bytes: FORMAT.md says their form, REFUSALS.md what is refused, TERMS.md what the words mean; they stand in docs/, and
  * are installed below share/doc/netkat. A slice is a pointer to its first element and its length in elements. Every operation answers a
- * struct by value. Of what its caller owns it changes nothing but `work` and `out`; it allocates nothing and keeps no pointer and no state.
- * So it may be called from several threads at once, as long as no call is lent a `work` or `out` that another call has, and nobody writes
- * the bytes that a call reads.
+ * struct by value. Of what its caller owns it changes nothing but `work`, `out` and `records`; it allocates nothing, and keeps no pointer
+ * and no state. So it may be called from several threads at once, as long as no call is lent a `work`, `out` or `records` that another call
+ * has, and nobody writes the bytes that a call reads.
  *
- * What the caller owes: the elements are there, as many as the length says, and aligned; `work` and `out` overlap neither each other nor
- * another slice of the same call. `term` and `replacement` may overlap, and so may `a` and `b`. A pointer may be NULL if its length is 0
- * (tested).
+ * What the caller owes: the elements are there, as many as the length says, and aligned; `work`, `out` and `records` overlap neither each
+ * other nor another slice of the same call. `term` and `replacement` may overlap, and so may `a` and `b`. A pointer may be NULL if its
+ * length is 0 (tested).
  *
- * A term is walked with recursion, at most 256 levels deep: "Stack" below says how many bytes that takes. The archive is for x86-64, needs
- * memset of the C library alone, and is linked by
+ * A term is walked with recursion, at most 256 levels deep: "Stack" below says how many bytes that takes. A core can be as deep as it has
+ * records, and is read without recursion. The archive is for x86-64, needs memset of the C library alone, and is linked by
  *
  *     cc program.c $(pkg-config --cflags --libs netkat)
  *
@@ -28,7 +28,7 @@ extern "C" {
 
 /* The version of this header. The pkg-config file takes it from here, and a test compares netkat_version with it. */
 #define NETKAT_VERSION_MAJOR 0
-#define NETKAT_VERSION_MINOR 3
+#define NETKAT_VERSION_MINOR 4
 #define NETKAT_VERSION_PATCH 0
 #define NETKAT_VERSION (NETKAT_VERSION_MAJOR * 65536 + NETKAT_VERSION_MINOR * 256 + NETKAT_VERSION_PATCH)
 
@@ -60,10 +60,16 @@ uint32_t netkat_version(void);
 #define NETKAT_WORK_LEN(allowance) ((size_t)8 * (size_t)(allowance) + 8192)
 #define NETKAT_CORE_MAX(allowance) ((size_t)7 * (size_t)(allowance))
 
+/* Read core: the most records of a core that is read, which are as many as Desugar can make; with more it is refused by 42. The numbers of
+ * a list for so many records, so that 10 is not met. A record has at least one byte: a core has no more records than bytes, and if Desugar
+ * made it, no more than were drawn. */
+#define NETKAT_MAX_CORE_RECORDS 65535
+#define NETKAT_RECORDS_LEN(records) ((size_t)3 * (size_t)(records))
+
 /* Stack: bytes below its caller's frame that are enough for a function, whatever its input. In a thread add what the C library keeps on
  * its stack, for which PTHREAD_STACK_MIN was enough (glibc), thread-local variables, the frames above the call and those of signal
- * handlers. Measured, not proved: tests/stack.c looks for the worst terms of 256 levels on x86-64, and then runs each function on just so
- * much. `make stack` prints these lines anew: what was measured and 512 more, rounded up to 4,096. */
+ * handlers. Measured, not proved: tests/stack.c looks for the worst terms of 256 levels, and cores of 65,535 records, on x86-64, and then
+ * runs each function on just so much. `make stack` prints these lines anew: what was measured and 512 more, rounded up to 4,096. */
 #define NETKAT_STACK_CHECK 163840            /* 159808 measured */
 #define NETKAT_STACK_DESUGAR 237568          /* 233648 measured */
 #define NETKAT_STACK_SUBSTITUTE 102400       /* 98720 measured */
@@ -71,22 +77,23 @@ uint32_t netkat_version(void);
 #define NETKAT_STACK_NUM_FIELDS 57344        /* 53472 measured */
 #define NETKAT_STACK_COMPUTE_SUBRANGE 4096   /* 48 measured */
 #define NETKAT_STACK_COST 4096               /* 352 measured */
+#define NETKAT_STACK_READ_CORE 4096          /* 248 measured */
 
-/* The numbers of refusals. 41 to 54 are kept for functions to come. */
+/* The numbers of refusals. 43 to 54 are kept for functions to come. */
 enum netkat_refusal {
     NETKAT_OK = 0,
-    /* the term's form; 1 and 5 also that of a pattern that is lent to netkat_cost */
-    NETKAT_REFUSAL_ENDS_EARLY = 1,       /* the bytes end before the term, or a lent literal, is complete */
+    /* the term's form; 1 to 5 and 8 also that of a core, 1 and 5 that of a pattern that is lent to netkat_cost */
+    NETKAT_REFUSAL_ENDS_EARLY = 1,       /* the bytes end before the term or core, or a lent literal, is complete */
     NETKAT_REFUSAL_UNKNOWN_KIND = 2,     /* a kind above 26 */
     NETKAT_REFUSAL_FOREIGN_FIELD = 3,    /* a map bit of a field that the kind, or the pattern, does not have */
     NETKAT_REFUSAL_ZERO_WRITTEN = 4,     /* a field that is zero or empty is written, or a spare bit of a literal is 1 */
     NETKAT_REFUSAL_OUT_OF_RANGE = 5,     /* a pattern above 3, the value of an Assign or Test above 1, a literal of more than 192 bits */
     NETKAT_REFUSAL_TOO_MANY_RECORDS = 6, /* more than 4,096 records */
     NETKAT_REFUSAL_TOO_DEEP = 7,         /* more than 256 levels */
-    NETKAT_REFUSAL_LEFT_OVER = 8,        /* bytes behind the end of the term */
+    NETKAT_REFUSAL_LEFT_OVER = 8,        /* bytes behind the end of the term or core */
     /* what the caller lends */
     NETKAT_REFUSAL_ALLOWANCE = 9,    /* the allowance is not 1 to 65,535 */
-    NETKAT_REFUSAL_WORK_MEMORY = 10, /* work is shorter than NETKAT_WORK_LEN(allowance) */
+    NETKAT_REFUSAL_WORK_MEMORY = 10, /* work is shorter than NETKAT_WORK_LEN(allowance), or records than three numbers for each record */
     /* the rules */
     NETKAT_REFUSAL_UNKNOWN_ALIAS = 11,         /* no LetBitRange around it has this name */
     NETKAT_REFUSAL_UNBOUND_VARIABLE = 12,      /* no Let and no LetBitRange around it has this name */
@@ -115,7 +122,10 @@ enum netkat_refusal {
     NETKAT_REFUSAL_REPLACEMENT_OUT_OF_RANGE = 35,
     NETKAT_REFUSAL_REPLACEMENT_TOO_MANY_RECORDS = 36,
     NETKAT_REFUSAL_REPLACEMENT_TOO_DEEP = 37,
-    NETKAT_REFUSAL_REPLACEMENT_LEFT_OVER = 38
+    NETKAT_REFUSAL_REPLACEMENT_LEFT_OVER = 38,
+    /* the form of a core, besides 1 to 5 and 8 */
+    NETKAT_REFUSAL_TERM_KIND = 41,     /* a kind from 16 to 26, which only a term has */
+    NETKAT_REFUSAL_CORE_TOO_LARGE = 42 /* more than 65,535 records */
 };
 
 /* The kinds of records; FORMAT.md says what each has and means. 0 to 15 are those of a core. A VAR_ASSIGN, VAR_TEST or VAR_MATCH uses an
@@ -166,8 +176,9 @@ enum netkat_map {
 };
 
 /* Success: number 0, place 0, and the operation's values in first and second, 0 where it has none.
- * A refusal: its number and its place; first and second are 0. The place is the index of a record of the term, from 0 in written order:
- *   1 to 7            the record being read
+ * A refusal: its number and its place; first and second are 0. The place is the index of a record of the term or core, from 0 in written
+ * order:
+ *   1 to 7, 41, 42    the record being read
  *   8                 the number of records, as the bytes left over stand behind the last one
  *   11 to 24          the record that breaks the rule, or whose draw goes beyond the allowance
  *   25                the Assign or Test
@@ -231,6 +242,18 @@ netkat_answer netkat_cost(uint32_t start, uint32_t end, uint32_t pattern, uint32
                           const uint8_t *b, size_t b_len, uint32_t b_bits);
 /* The cost that netkat_cost answered; 0 if it refused. The argument is evaluated twice. */
 #define NETKAT_COST(answer) ((uint64_t)(answer).second << 32 | (answer).first)
+
+/* Reads a core back, as netkat_desugar wrote it: its records as numbers, in the front of records. A record has three: its kind, 0 to 15,
+ * its field and its value, which are 0 but for an Assign or Test. They stand in prefix order, so that a kind says how many children follow.
+ * first: how many records there are; second: the field count, the greatest of field + 1 of an Assign or Test, 0 where there is none.
+ * A core may have up to 65,535 records, at any depth, which takes no more stack. It need not be one that netkat_desugar would write: the
+ * form decides alone. What netkat_desugar wrote is read to the tree that it came from, unless 25 or 10 applies. Cores with the same records
+ * have the same bytes.
+ * 1 to 5, 8, 41 and 42 by form, as for a term but without 6 and 7: 42 at a 65,536th record, which needs no byte; 41 at a kind from 16 to
+ * 26, looked at beside 2, which is for kinds above 26. Then 25 at the first Assign or Test of field 4,294,967,295. Last 10, if records has
+ * fewer than three numbers for each record.
+ * On a refusal every number of records is kept, on success every number behind those of the core. */
+netkat_answer netkat_read_core(const uint8_t *core, size_t core_len, uint32_t *records, size_t records_len);
 
 #ifdef __cplusplus
 }

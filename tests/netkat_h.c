@@ -47,6 +47,11 @@ static void nulls(void) {
     expect("cost, NULL alone", netkat_cost(0, 4, NETKAT_PATTERN_IP_RANGE, 0, NULL, 0, 0, NULL, 0, 0), 0, 0, 7, 0);
     expect("cost, NULL a, bit", netkat_cost(0, 1, NETKAT_PATTERN_EXACT, 0, NULL, 0, 1, zero, 1, 1), NETKAT_REFUSAL_ENDS_EARLY, 0, 0, 0);
     expect("cost, NULL b, bit", netkat_cost(0, 1, NETKAT_PATTERN_WILDCARD, 0, zero, 1, 1, NULL, 0, 1), NETKAT_REFUSAL_ENDS_EARLY, 0, 0, 0);
+
+    expect("read core, NULL core", netkat_read_core(NULL, 0, work, 3), NETKAT_REFUSAL_ENDS_EARLY, 0, 0, 0);
+    expect("read core, NULL records", netkat_read_core(zero, 1, NULL, 0), NETKAT_REFUSAL_WORK_MEMORY, 0, 0, 0);
+    expect("read core, NULL records and a kind", netkat_read_core(var, 2, NULL, 0), NETKAT_REFUSAL_TERM_KIND, 0, 0, 0);
+    expect("read core, NULL alone", netkat_read_core(NULL, 0, NULL, 0), NETKAT_REFUSAL_ENDS_EARLY, 0, 0, 0);
 }
 
 /* `levels` levels of Ifs above matches of NETKAT_RECORD_MAX bytes, to at; the end. */
@@ -74,6 +79,9 @@ static netkat_answer desugar(const uint8_t *term, size_t len, uint32_t allowance
     static uint32_t work[NETKAT_WORK_LEN(NETKAT_MAX_ALLOWANCE)];
     return netkat_desugar(term, len, allowance, work, work_len, core_out, out_len);
 }
+
+/* [0, 32768) := 0, which draws the greatest allowance */
+static const uint8_t wide[] = {0x0b, NETKAT_KIND_LET_BIT_RANGE, 1, 0, 0, 0x80, 0, 0, 3, NETKAT_KIND_VAR_ASSIGN, 1, 0};
 
 /* Check of a match on the fields from 0 up to `width`, with a literal of `bits` bits, all of them 1, in the place of A and, if it is to
  * stand, of B. */
@@ -229,10 +237,172 @@ static void cost(void) {
     all_as_drawn(5);
 }
 
+/* Cores with the answer, and the kind, field and value of their records, or with the refusal. `room` are the numbers of the list. */
+#define CORE(bytes) bytes, sizeof bytes - 1
+#define TOP_FIELD "\xff\xff\xff\xff"
+static const struct {
+    const char *what, *core;
+    size_t len, room;
+    uint32_t number, place, first, second, records[9];
+} cores[] = {
+    {"Zero", CORE("\0"), 3, 0, 0, 1, 0, {0, 0, 0}},
+    {"One", CORE("\x01\x01"), 3, 0, 0, 1, 0, {NETKAT_KIND_ONE, 0, 0}},
+    {"End, a longer list", CORE("\x01\x04"), 99, 0, 0, 1, 0, {NETKAT_KIND_END, 0, 0}},
+    {"Assign, field 0", CORE("\x01\x05"), 4, 0, 0, 1, 1, {NETKAT_KIND_ASSIGN, 0, 0}},
+    {"Test, field 0, value 1", CORE("\x21\x06\x01"), 3, 0, 0, 1, 1, {NETKAT_KIND_TEST, 0, 1}},
+    {"Assign, field 8, value 1", CORE("\x25\x05\x08\0\0\0\x01"), 5, 0, 0, 1, 9, {NETKAT_KIND_ASSIGN, 8, 1}},
+    {"Test, all bytes of a field", CORE("\x05\x06\x04\x03\x02\x01"), 3, 0, 0, 1, 0x01020305, {NETKAT_KIND_TEST, 0x01020304, 0}},
+    {"Test, last field but one", CORE("\x05\x06\xfe\xff\xff\xff"), 3, 0, 0, 1, UINT32_MAX, {NETKAT_KIND_TEST, UINT32_MAX - 1, 0}},
+    {"Star", CORE("\x01\x0e\x01\x03"), 7, 0, 0, 2, 0, {NETKAT_KIND_STAR, 0, 0, NETKAT_KIND_DUP, 0, 0}},
+    {"the greatest field first", CORE("\x01\x07\x05\x06\x07\0\0\0\x21\x05\x01"), 9, 0, 0, 3, 8,
+     {NETKAT_KIND_UNION, 0, 0, NETKAT_KIND_TEST, 7, 0, NETKAT_KIND_ASSIGN, 0, 1}},
+    {"the greatest field last", CORE("\x01\x0b\x21\x05\x01\x05\x06\x07\0\0\0"), 9, 0, 0, 3, 8,
+     {NETKAT_KIND_SEQUENCE, 0, 0, NETKAT_KIND_ASSIGN, 0, 1, NETKAT_KIND_TEST, 7, 0}},
+
+    {"no byte", CORE(""), 9, NETKAT_REFUSAL_ENDS_EARLY, 0, 0, 0, {0}},
+    {"no child", CORE("\x01\x0e"), 9, NETKAT_REFUSAL_ENDS_EARLY, 1, 0, 0, {0}},
+    {"no second child", CORE("\x01\x0c\0"), 9, NETKAT_REFUSAL_ENDS_EARLY, 2, 0, 0, {0}},
+    {"no kind", CORE("\x01"), 9, NETKAT_REFUSAL_ENDS_EARLY, 0, 0, 0, {0}},
+    {"no kind, before a foreign field", CORE("\xff"), 9, NETKAT_REFUSAL_ENDS_EARLY, 0, 0, 0, {0}},
+    {"kind 0 written", CORE("\x01\0"), 9, NETKAT_REFUSAL_ZERO_WRITTEN, 0, 0, 0, {0}},
+    {"kind 0 written, before a foreign field", CORE("\x03\0"), 9, NETKAT_REFUSAL_ZERO_WRITTEN, 0, 0, 0, {0}},
+    {"kind 27", CORE("\x01\x1b"), 9, NETKAT_REFUSAL_UNKNOWN_KIND, 0, 0, 0, {0}},
+    {"kind 255, before a foreign field", CORE("\x01\x0e\xff\xff"), 9, NETKAT_REFUSAL_UNKNOWN_KIND, 1, 0, 0, {0}},
+    {"kind 16", CORE("\x01\x10"), 9, NETKAT_REFUSAL_TERM_KIND, 0, 0, 0, {0}},
+    {"kind 26", CORE("\x01\x1a"), 9, NETKAT_REFUSAL_TERM_KIND, 0, 0, 0, {0}},
+    {"kind 20 with its name", CORE("\x01\x0e\x03\x14\x01\0"), 9, NETKAT_REFUSAL_TERM_KIND, 1, 0, 0, {0}},
+    {"kind 16, before a foreign field", CORE("\x03\x10"), 9, NETKAT_REFUSAL_TERM_KIND, 0, 0, 0, {0}},
+    {"a foreign field without a kind", CORE("\x02"), 9, NETKAT_REFUSAL_FOREIGN_FIELD, 0, 0, 0, {0}},
+    {"a field of a Union, before its bytes", CORE("\x05\x07"), 9, NETKAT_REFUSAL_FOREIGN_FIELD, 0, 0, 0, {0}},
+    {"the end of a Test, before its field", CORE("\x0d\x06"), 9, NETKAT_REFUSAL_FOREIGN_FIELD, 0, 0, 0, {0}},
+    {"a literal of an Assign", CORE("\x41\x05\x01\x01"), 9, NETKAT_REFUSAL_FOREIGN_FIELD, 0, 0, 0, {0}},
+    {"no field", CORE("\x25\x06"), 9, NETKAT_REFUSAL_ENDS_EARLY, 0, 0, 0, {0}},
+    {"half a field", CORE("\x25\x06\0\0\0"), 9, NETKAT_REFUSAL_ENDS_EARLY, 0, 0, 0, {0}},
+    {"field 0 written, before the value", CORE("\x25\x06\0\0\0\0\x02"), 9, NETKAT_REFUSAL_ZERO_WRITTEN, 0, 0, 0, {0}},
+    {"no value", CORE("\x25\x06\x01\0\0\0"), 9, NETKAT_REFUSAL_ENDS_EARLY, 0, 0, 0, {0}},
+    {"value 0 written", CORE("\x21\x05\0"), 9, NETKAT_REFUSAL_ZERO_WRITTEN, 0, 0, 0, {0}},
+    {"value 2", CORE("\x21\x05\x02"), 9, NETKAT_REFUSAL_OUT_OF_RANGE, 0, 0, 0, {0}},
+    {"value 255 of the last field", CORE("\x25\x06" TOP_FIELD "\xff"), 9, NETKAT_REFUSAL_OUT_OF_RANGE, 0, 0, 0, {0}},
+    {"left over", CORE("\0\0"), 9, NETKAT_REFUSAL_LEFT_OVER, 1, 0, 0, {0}},
+    {"left over, before the last field", CORE("\x01\x0e\x05\x06" TOP_FIELD "\x01"), 9, NETKAT_REFUSAL_LEFT_OVER, 2, 0, 0, {0}},
+    {"left over, before the list", CORE("\0\0"), 0, NETKAT_REFUSAL_LEFT_OVER, 1, 0, 0, {0}},
+    {"the last field tested", CORE("\x05\x06" TOP_FIELD), 9, NETKAT_REFUSAL_FIELD_COUNT, 0, 0, 0, {0}},
+    {"the last field assigned", CORE("\x01\x0e\x25\x05" TOP_FIELD "\x01"), 9, NETKAT_REFUSAL_FIELD_COUNT, 1, 0, 0, {0}},
+    {"the last field twice", CORE("\x01\x07\x05\x06" TOP_FIELD "\x05\x05" TOP_FIELD), 9, NETKAT_REFUSAL_FIELD_COUNT, 1, 0, 0, {0}},
+    {"the last field, behind it a kind", CORE("\x01\x07\x05\x06" TOP_FIELD "\x01\x11"), 9, NETKAT_REFUSAL_TERM_KIND, 2, 0, 0, {0}},
+    {"the last field, before the list", CORE("\x01\x0e\x05\x06" TOP_FIELD), 5, NETKAT_REFUSAL_FIELD_COUNT, 1, 0, 0, {0}},
+    {"a list of 2 for 1", CORE("\0"), 2, NETKAT_REFUSAL_WORK_MEMORY, 0, 0, 0, {0}},
+    {"a list of 8 for 3", CORE("\x01\x09\x01\x05\x01\x06"), 8, NETKAT_REFUSAL_WORK_MEMORY, 0, 0, 0, {0}},
+};
+
+static uint32_t list[1 + NETKAT_RECORDS_LEN(NETKAT_MAX_CORE_RECORDS) + 1];
+static uint32_t *const read_records = list + 1;
+
+/* Read core with a list of so many numbers. All but the records of the answer is kept: the rest of the list and what lies around it. */
+static netkat_answer read_core(const char *what, const uint8_t *core, size_t len, size_t room) {
+    memset(list, 0xa5, sizeof list);
+    netkat_answer a = netkat_read_core(core, len, read_records, room);
+    size_t kept = list[0] == 0xa5a5a5a5, all = sizeof list / sizeof *list;
+    for (size_t i = 1 + NETKAT_RECORDS_LEN(a.first); i < all; i++) kept += list[i] == 0xa5a5a5a5;
+    if (kept != all - NETKAT_RECORDS_LEN(a.first)) printf("%s: other numbers are changed\n", what), failed = 1;
+    return a;
+}
+
+/* The records that were read, written as bytes once more, are the core. */
+static void same_core(const char *what, const uint8_t *core, size_t len, uint32_t count) {
+    static uint8_t again[NETKAT_CORE_MAX(NETKAT_MAX_CORE_RECORDS)];
+    uint8_t *at = again;
+    for (const uint32_t *r = read_records; count > 0; count--, r += 3) {
+        *at++ = (uint8_t)((r[0] ? NETKAT_MAP_KIND : 0) | (r[1] ? NETKAT_MAP_START : 0) | (r[2] ? NETKAT_MAP_NUMBER : 0));
+        if (r[0]) *at++ = (uint8_t)r[0];
+        for (int i = 0; r[1] && i < 32; i += 8) *at++ = (uint8_t)(r[1] >> i);
+        if (r[2]) *at++ = (uint8_t)r[2];
+    }
+    if ((size_t)(at - again) != len) printf("%s: another length\n", what), failed = 1;
+    else same(what, again, core, len);
+}
+
+/* A term that is desugared: the core comes back with its count and fields, as long as there is room for it. */
+static void as_written(const char *what, const uint8_t *term, size_t len, uint32_t count, uint32_t fields) {
+    const size_t n = NETKAT_WORK_LEN(NETKAT_MAX_ALLOWANCE), room = NETKAT_CORE_MAX(NETKAT_MAX_ALLOWANCE);
+    netkat_answer made = desugar(term, len, NETKAT_MAX_ALLOWANCE, n, room);
+    expect(what, read_core(what, core_out, made.first, NETKAT_RECORDS_LEN(count)), 0, 0, count, fields);
+    same_core(what, core_out, made.first, count);
+    netkat_answer less = read_core(what, core_out, made.first, NETKAT_RECORDS_LEN(count) - 1);
+    expect(what, less, NETKAT_REFUSAL_WORK_MEMORY, 0, 0, 0);
+    if (made.first > 1) expect(what, netkat_read_core(core_out, made.first - 1, list, 0), NETKAT_REFUSAL_ENDS_EARLY, count - 1, 0, 0);
+}
+
+/* Two bytes of any values with each of some ends: form is judged as for a term, and the fields are counted as there, unless a kind is a
+ * term's. */
+static void as_a_term(void) {
+    static const struct {
+        const char *bytes;
+        size_t len;
+    } ends[] = {{CORE("")},
+                {CORE("\0")},
+                {CORE("\x01")},
+                {CORE("\x01\x06\0")},
+                {CORE("\0\0\0\0")},
+                {CORE("\x01\0\0\0")},
+                {CORE("\x01\0\0\0\x01")},
+                {CORE("\x01\0\0\0\x02")},
+                {CORE(TOP_FIELD)},
+                {CORE(TOP_FIELD "\x01")}};
+    for (unsigned front = 0; front < 1 << 16; front++)
+        for (size_t i = 0; i < sizeof ends / sizeof *ends; i++) {
+            const size_t len = 2 + ends[i].len;
+            uint8_t bytes[8] = {(uint8_t)front, (uint8_t)(front >> 8)};
+            memcpy(bytes + 2, ends[i].bytes, ends[i].len);
+            netkat_answer a = netkat_read_core(bytes, len, list, NETKAT_RECORDS_LEN(len)), term = netkat_num_fields(bytes, len);
+            int term_kind = (bytes[0] & NETKAT_MAP_KIND) && bytes[1] > NETKAT_KIND_LTL_NEXT && bytes[1] <= NETKAT_KIND_VAR_MATCH;
+            if (term_kind) expect("a kind of terms", a, NETKAT_REFUSAL_TERM_KIND, 0, 0, 0);
+            else expect("as a term", a, term.number, term.place, a.first, term.first);
+        }
+}
+
+/* `count` times Star above the bytes: as many levels, and one for each below. */
+static netkat_answer read_stars(const char *what, size_t count, const char *bottom, size_t len, size_t room) {
+    static uint8_t core[2 * (NETKAT_MAX_CORE_RECORDS + 1) + 8];
+    for (size_t i = 0; i < count; i++) core[2 * i] = NETKAT_MAP_KIND, core[2 * i + 1] = NETKAT_KIND_STAR;
+    memcpy(core + 2 * count, bottom, len);
+    netkat_answer a = read_core(what, core, 2 * count + len, room);
+    if (a.number == 0) same_core(what, core, 2 * count + len, a.first);
+    return a;
+}
+
+/* Cores of 65,535 records, one below the other, and of more. */
+static void deep_cores(void) {
+    const uint32_t most = NETKAT_MAX_CORE_RECORDS;
+    const size_t room = NETKAT_RECORDS_LEN(most);
+    expect("deepest core", read_stars("deepest core", most - 1, CORE("\x25\x06\x07\0\0\0\x01"), room), 0, 0, most, 8);
+    expect("a list one less", read_stars("a list one less", most - 1, CORE("\0"), room - 1), NETKAT_REFUSAL_WORK_MEMORY, 0, 0, 0);
+    expect("last kind", read_stars("last kind", most - 1, CORE("\x01\x12"), room), NETKAT_REFUSAL_TERM_KIND, most - 1, 0, 0);
+    expect("last byte", read_stars("last byte", most - 1, CORE(""), room), NETKAT_REFUSAL_ENDS_EARLY, most - 1, 0, 0);
+    expect("field", read_stars("field", most - 1, CORE("\x05\x06" TOP_FIELD), room), NETKAT_REFUSAL_FIELD_COUNT, most - 1, 0, 0);
+    expect("behind it", read_stars("behind it", most - 1, CORE("\0\0"), room), NETKAT_REFUSAL_LEFT_OVER, most, 0, 0);
+    expect("one more", read_stars("one more", most, CORE("\0"), room), NETKAT_REFUSAL_CORE_TOO_LARGE, most, 0, 0);
+    expect("one more, not there", read_stars("not there", most, CORE(""), room), NETKAT_REFUSAL_CORE_TOO_LARGE, most, 0, 0);
+    expect("one more, of kind 16", read_stars("of kind 16", most, CORE("\x01\x10"), 0), NETKAT_REFUSAL_CORE_TOO_LARGE, most, 0, 0);
+}
+
+static void cores_read(void) {
+    for (size_t i = 0; i < sizeof cores / sizeof *cores; i++) {
+        netkat_answer a = read_core(cores[i].what, (const uint8_t *)cores[i].core, cores[i].len, cores[i].room);
+        expect(cores[i].what, a, cores[i].number, cores[i].place, cores[i].first, cores[i].second);
+        if (memcmp(read_records, cores[i].records, NETKAT_RECORDS_LEN(a.first) * sizeof *list) != 0)
+            printf("%s: other records\n", cores[i].what), failed = 1;
+    }
+    const uint8_t rule[] = {1, NETKAT_KIND_IF_THEN_ELSE, 0x49, NETKAT_KIND_BIT_RANGE_TEST, 2, 0, 0, 0, 2, 1, 1, 1, 1, NETKAT_KIND_STAR, 1, 3};
+    as_written("an If", rule, sizeof rule, 12, 2);
+    as_written("the greatest allowance", wide, sizeof wide, NETKAT_MAX_ALLOWANCE, 32768);
+    as_a_term();
+    deep_cores();
+}
+
 /* The limits: a term of NETKAT_TERM_MAX bytes and 4,096 records, 256 levels, the greatest allowance with its work memory and room. */
 static void limits(void) {
     static uint8_t term[NETKAT_TERM_MAX + 1], result[NETKAT_TERM_MAX];
-    const uint8_t wide[] = {0x0b, NETKAT_KIND_LET_BIT_RANGE, 1, 0, 0, 0x80, 0, 0, 3, NETKAT_KIND_VAR_ASSIGN, 1, 0}; /* [0, 32768) := 0 */
     const uint8_t test[] = {0x25, NETKAT_KIND_TEST, 1, 0, 0, 0, 1};
     const uint32_t most = NETKAT_MAX_ALLOWANCE;
     const size_t n = NETKAT_WORK_LEN(NETKAT_MAX_ALLOWANCE), room = NETKAT_CORE_MAX(NETKAT_MAX_ALLOWANCE);
@@ -320,6 +490,7 @@ int main(void) {
     nulls();
     limits();
     cost();
+    cores_read();
     if (netkat_version() != NETKAT_VERSION) printf("version %u, expected %u\n", netkat_version(), (unsigned)NETKAT_VERSION), failed = 1;
 
     if (!failed) puts("netkat.h: all answers as expected");

@@ -1,7 +1,7 @@
 /* Compares docs/REFUSALS.md and docs/FORMAT.md with the library, the header and the example, so that the pages cannot drift.
  *
  *   REFUSALS.md   every row of the table: the name has its number, the call is refused by it at that place, and the buffer is kept;
- *                 every number from 1 to 28 and 31 to 38 has one row; so have those of Cost in their own table
+ *                 every number from 1 to 28, 31 to 38, 41 and 42 has one row; so have those of Cost and Read core in their own tables
  *   FORMAT.md     every row of the kinds and patterns: the name has its number, and the library takes just these map bits and children;
  *                 every limit has its value; the bytes of the example are examples/prefix.term and its core; the C code stands in
  *                 examples/c/desugar.c
@@ -73,6 +73,8 @@ static const struct {
     N(NETKAT_REFUSAL_REPLACEMENT_TOO_MANY_RECORDS),
     N(NETKAT_REFUSAL_REPLACEMENT_TOO_DEEP),
     N(NETKAT_REFUSAL_REPLACEMENT_LEFT_OVER),
+    N(NETKAT_REFUSAL_TERM_KIND),
+    N(NETKAT_REFUSAL_CORE_TOO_LARGE),
     N(NETKAT_KIND_ZERO),
     N(NETKAT_KIND_ONE),
     N(NETKAT_KIND_TOP),
@@ -112,6 +114,7 @@ static const struct {
     N(NETKAT_MAX_RANGE_PATTERN_COST),
     N(NETKAT_RECORD_MAX),
     N(NETKAT_TERM_MAX),
+    N(NETKAT_MAX_CORE_RECORDS),
 };
 
 /* Does the name, which may stand in backquotes, have the value? */
@@ -162,7 +165,7 @@ static char *section(const char *page, const char *heading) {
 
 /* Bytes from the notation of REFUSALS.md. */
 struct bytes {
-    uint8_t at[1 << 16];
+    uint8_t at[1 << 17];
     size_t len;
 };
 
@@ -209,6 +212,7 @@ static void read_term(struct bytes *b, char *word) {
 
 static uint32_t work[NETKAT_WORK_LEN(NETKAT_MAX_ALLOWANCE)];
 static uint8_t out[NETKAT_CORE_MAX(NETKAT_MAX_ALLOWANCE)];
+static uint32_t records[64];
 
 static netkat_answer call(char *words) {
     static struct bytes term, replacement, a, b;
@@ -224,6 +228,7 @@ static netkat_answer call(char *words) {
         return netkat_cost(n[1], n[2], n[3], n[4], a.at, a.len, n[5], b.at, b.len, n[7]);
     }
     read_term(&term, w[1]);
+    if (strcmp(w[0], "readcore") == 0) return netkat_read_core(term.at, term.len, records, n[2]);
     if (strcmp(w[0], "check") == 0) return netkat_check(term.at, term.len);
     if (strcmp(w[0], "fields") == 0) return netkat_num_fields(term.at, term.len);
     if (strcmp(w[0], "desugar") == 0) return netkat_desugar(term.at, term.len, n[2], work, n[3], out, n[4]);
@@ -240,34 +245,33 @@ static void check_call(char *words, uint32_t number, uint32_t place) {
     words += *words == '`';
     words[strcspn(words, "`")] = 0;
     memset(out, 0xa5, 64);
+    memset(records, 0xa5, sizeof records);
     netkat_answer a = call(words);
     if (a.number != number || a.place != place || a.first || a.second)
         WRONG("the call of %u: %u %u %u %u, expected %u %u 0 0", number, a.number, a.place, a.first, a.second, number, place);
     for (int i = 0; i < 64; i++)
-        if (out[i] != 0xa5) WRONG("the call of %u changed the buffer", number);
+        if (out[i] != 0xa5 || records[i] != 0xa5a5a5a5) WRONG("the call of %u changed what it was lent", number);
+}
+
+/* The rows of a table of calls, with the number in the first cell, the call in one of the others and its place in the next, which is 0 if
+ * the table has none. Each of the numbers has one row, and no other has. If the names stand there, they are in the second cell. */
+static void calls(const char *page, const char *heading, int named, int at, const char *numbers) {
+    char *text = section(page, heading), *cell[CELLS], seen[4 * 64] = "";
+    while (next_row(&text, cell)) {
+        uint32_t number = (uint32_t)strtoul(cell[0], NULL, 10);
+        if (!isdigit((unsigned char)*cell[0])) continue;
+        if (named) check_name(cell[1], number);
+        check_call(cell[at], number, (uint32_t)strtoul(cell[at + 1], NULL, 10));
+        snprintf(seen + strlen(seen), sizeof seen - strlen(seen), "%u ", number);
+    }
+    if (strcmp(seen, numbers) != 0) WRONG("%s has rows for %s", heading, seen);
 }
 
 static void refusals(const char *page) {
-    char *text = section(page, "## The table\n"), *cell[CELLS];
-    int rows[39] = {0}, of_cost[39] = {0};
-    while (next_row(&text, cell)) {
-        uint32_t number = (uint32_t)strtoul(cell[0], NULL, 10);
-        if (!isdigit((unsigned char)*cell[0])) continue;
-        check_name(cell[1], number);
-        if (number < 39) rows[number]++;
-        check_call(cell[4], number, (uint32_t)strtoul(cell[5], NULL, 10));
-    }
-    text = section(page, "## Refusals of netkat_cost\n");
-    while (next_row(&text, cell)) {
-        uint32_t number = (uint32_t)strtoul(cell[0], NULL, 10);
-        if (!isdigit((unsigned char)*cell[0])) continue;
-        if (number < 39) of_cost[number]++;
-        check_call(cell[2], number, 0);
-    }
-    for (int i = 0; i < 39; i++) {
-        if (rows[i] != ((i >= 1 && i <= 28) || i >= 31)) WRONG("%d rows for %d", rows[i], i);
-        if (of_cost[i] != (i == 1 || i == 5 || i == 14 || i == 15 || (i >= 17 && i <= 21))) WRONG("%d rows for %d of cost", of_cost[i], i);
-    }
+    calls(page, "## The table\n", 1, 4,
+          "1 2 3 4 5 6 7 8 9 10 11 12 13 14 15 16 17 18 19 20 21 22 23 24 25 26 27 28 31 32 33 34 35 36 37 38 41 42 ");
+    calls(page, "## Refusals of netkat_cost\n", 0, 2, "1 5 14 15 17 18 19 20 21 ");
+    calls(page, "## Refusals of netkat_read_core\n", 0, 2, "1 2 3 4 5 8 10 25 ");
 }
 
 /* Does the library take a record of this kind with this map bit? In a match a number and a literal B depend on the pattern. */
@@ -303,7 +307,7 @@ static void format(const char *page) {
         check_name(cell[2], value);
         rows++;
     }
-    if (rows != 8) WRONG("%d limits", rows);
+    if (rows != 9) WRONG("%d limits", rows);
 
     rows = 0;
     text = section(page, "## Kinds\n");

@@ -6,9 +6,9 @@
  *
  * Measured over terms of 256 levels: a chain of each kind through each of its children above each of a list of small bottoms; chains of
  * random kinds with random siblings; for Substitute also deep replacements at variables of several levels. Cost, which is lent no term, is
- * measured over the matches among the bottoms. A thread gets a stack that was filled with a pattern; the lowest byte that is not the
- * pattern any more shows how deep it went. It counts from the frame of `run`, which calls the library: the thread's own frames, and what
- * the C library keeps above them, are left out, some 100 bytes of `run` are in.
+ * measured over the matches among the bottoms; Read core over chains of each kind of a core, of 65,535 records. A thread gets a stack that
+ * was filled with a pattern; the lowest byte that is not the pattern any more shows how deep it went. It counts from the frame of `run`,
+ * which calls the library: the thread's own frames, and what the C library keeps above them, are left out, some 100 bytes of `run` are in.
  *
  * A run on a promised stack is made in a thread too, whose stack ends at a page without access. Before it calls `run` it takes up (alloca)
  * all but the promised bytes, so that neither PTHREAD_STACK_MIN nor what lies above the call plays a part. Each run is a process of its
@@ -30,7 +30,7 @@
 #define STACK ((size_t)2 << 20)
 #define RANDOM_TERMS 1000
 
-enum function { CHECK, DESUGAR, SUBSTITUTE, FRAGMENT, FIELDS, SUBRANGE, COST, FUNCTIONS };
+enum function { CHECK, DESUGAR, SUBSTITUTE, FRAGMENT, FIELDS, SUBRANGE, COST, READ_CORE, FUNCTIONS };
 
 static const struct {
     const char *name, *define;
@@ -43,6 +43,7 @@ static const struct {
     {"netkat_num_fields", "NETKAT_STACK_NUM_FIELDS", NETKAT_STACK_NUM_FIELDS},
     {"netkat_compute_subrange", "NETKAT_STACK_COMPUTE_SUBRANGE", NETKAT_STACK_COMPUTE_SUBRANGE},
     {"netkat_cost", "NETKAT_STACK_COST", NETKAT_STACK_COST},
+    {"netkat_read_core", "NETKAT_STACK_READ_CORE", NETKAT_STACK_READ_CORE},
 };
 
 static const char *kinds[] = {
@@ -178,7 +179,8 @@ static __attribute__((noinline)) void run(struct call *c) {
     case FRAGMENT: netkat_is_test_fragment(s, n); break;
     case FIELDS: netkat_num_fields(s, n); break;
     case SUBRANGE: netkat_compute_subrange(4, 8, 1, 3); break;
-    default: cost(s); break;
+    case COST: cost(s); break;
+    default: netkat_read_core(s, n, work, COUNT(work)); break;
     }
 }
 
@@ -308,6 +310,20 @@ static void patterns(void) {
         }
 }
 
+/* Read core: chains of so many records as a core may have, above each bottom. Above one that has several records they are too many. */
+static void cores(void) {
+    static struct link links[NETKAT_MAX_CORE_RECORDS];
+    for (int kind = NETKAT_KIND_UNION; kind <= NETKAT_KIND_LTL_NEXT; kind++)
+        for (int child = 0; child < arity[kind]; child++)
+            for (size_t b = 0; b < COUNT(bottoms); b++) {
+                size_t count = (NETKAT_MAX_CORE_RECORDS - 1) / arity[kind];
+                for (size_t i = 0; i < count; i++) links[i] = (struct link){kind, child, 0};
+                chain(&term, links, count, bottoms[b].bytes, bottoms[b].len, 0);
+                snprintf(term.shape, sizeof term.shape, "%zu times %s, child %d, above %s", count, kinds[kind], child + 1, bottoms[b].name);
+                measure(READ_CORE, &term, &zero);
+            }
+}
+
 /* Does the call end well on so much stack? With `own` in a thread as a user makes it, with PTHREAD_STACK_MIN more. */
 static int survives(enum function f, size_t promised, int own) {
     struct call c = {f, &worst[f].term, &worst[f].replacement, NULL, stack, promised};
@@ -338,6 +354,7 @@ int main(int argc, char **argv) {
     replacements();
     measure(SUBRANGE, &zero, &zero);
     patterns();
+    cores();
 
     for (int f = 0; f < FUNCTIONS; f++) {
         size_t bytes = worst[f].bytes, promised = functions[f].promised;

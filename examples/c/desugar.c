@@ -1,5 +1,5 @@
-/* An access rule as term bytes, its check, its core, what a refusal looks like, a label stack as a literal, and what a range of ports will
- * cost. Needs nothing but an installed libnetkat:
+/* An access rule as term bytes, its check, its core, read back from its bytes, what a refusal looks like, a label stack as a literal, and
+ * what a range of ports will cost. Needs nothing but an installed libnetkat:
  *
  *   cc desugar.c $(pkg-config --cflags --libs netkat) -o desugar && ./desugar
  *
@@ -103,29 +103,6 @@ static void put_labels(struct term *t, const uint32_t stack[WORDS], unsigned cou
 static const char *const kinds[] = {"Zero",      "One", "Top",        "Dup",      "End",      "Assign",     "Test", "Union",
                                     "Intersect", "Xor", "Difference", "Sequence", "LtlUntil", "Complement", "Star", "LtlNext"};
 
-/* A core, a record in each line, indented by its level. A core may be as deep as it has records: a loop with a list of its own. */
-static void print_core(const uint8_t *core, size_t len) {
-    static uint8_t to_come[ALLOWANCE]; /* for each record that is open, how many of its children are still to come */
-    size_t open = 0, at = 0;
-    while (at < len) {
-        uint8_t map = core[at++], kind = 0, value = 0;
-        uint32_t field = 0;
-        if (map & NETKAT_MAP_KIND) kind = core[at++];
-        if (map & NETKAT_MAP_START)
-            for (int i = 0; i < 32; i += 8) field |= (uint32_t)core[at++] << i;
-        if (map & NETKAT_MAP_NUMBER) value = core[at++];
-
-        printf("%*s%s", (int)(4 + 2 * open), "", kinds[kind]);
-        if (kind == NETKAT_KIND_TEST) printf(" %u == %u", field, value);
-        if (kind == NETKAT_KIND_ASSIGN) printf(" %u := %u", field, value);
-        putchar('\n');
-
-        if (kind >= NETKAT_KIND_UNION) to_come[open++] = kind <= NETKAT_KIND_LTL_UNTIL ? 2 : 1;
-        else
-            while (open > 0 && --to_come[open - 1] == 0) open--;
-    }
-}
-
 #define NAME(name) [NETKAT_REFUSAL_##name] = "NETKAT_REFUSAL_" #name
 /* clang-format off */
 static const char *const refusals[] = {
@@ -136,7 +113,7 @@ static const char *const refusals[] = {
     NAME(CONDITION_NOT_TEST), NAME(ALLOWANCE_SPENT), NAME(FIELD_COUNT), NAME(BUFFER_TOO_SHORT), NAME(RESULT_TOO_LARGE),
     NAME(SUBRANGE_OUTSIDE), NAME(REPLACEMENT_ENDS_EARLY), NAME(REPLACEMENT_UNKNOWN_KIND), NAME(REPLACEMENT_FOREIGN_FIELD),
     NAME(REPLACEMENT_ZERO_WRITTEN), NAME(REPLACEMENT_OUT_OF_RANGE), NAME(REPLACEMENT_TOO_MANY_RECORDS), NAME(REPLACEMENT_TOO_DEEP),
-    NAME(REPLACEMENT_LEFT_OVER)
+    NAME(REPLACEMENT_LEFT_OVER), NAME(TERM_KIND), NAME(CORE_TOO_LARGE)
 };
 /* clang-format on */
 
@@ -145,6 +122,29 @@ static int refused(netkat_answer a) {
     const char *name = a.number < sizeof refusals / sizeof *refusals ? refusals[a.number] : NULL;
     printf("  refused by %u, %s, at record %u\n", a.number, name ? name : "a number that this program does not know", a.place);
     return 1;
+}
+
+/* Reads a core back and prints it, a record in each line, indented by its level. A core may be as deep as it has records: a loop with a
+ * list of its own. */
+static void print_core(const uint8_t *core, size_t len) {
+    static uint32_t records[NETKAT_RECORDS_LEN(ALLOWANCE)]; /* no core has more records than the allowance that it was made under */
+    static uint8_t to_come[ALLOWANCE];                      /* for each record that is open, how many of its children are still to come */
+    size_t open = 0;
+
+    netkat_answer read = netkat_read_core(core, len, records, NETKAT_RECORDS_LEN(ALLOWANCE));
+    if (refused(read)) return;
+    printf("  read back, %u records over %u fields:\n", read.first, read.second);
+    for (const uint32_t *r = records; r < records + NETKAT_RECORDS_LEN(read.first); r += 3) {
+        uint32_t kind = r[0], field = r[1], value = r[2];
+        printf("%*s%s", (int)(4 + 2 * open), "", kinds[kind]);
+        if (kind == NETKAT_KIND_TEST) printf(" %u == %u", field, value);
+        if (kind == NETKAT_KIND_ASSIGN) printf(" %u := %u", field, value);
+        putchar('\n');
+
+        if (kind >= NETKAT_KIND_UNION) to_come[open++] = kind <= NETKAT_KIND_LTL_UNTIL ? 2 : 1;
+        else
+            while (open > 0 && --to_come[open - 1] == 0) open--;
+    }
 }
 
 /* Checks the term, and desugars it if its rules hold. */
@@ -162,7 +162,7 @@ static void show(const struct term *t) {
 
     netkat_answer made = netkat_desugar(t->bytes, t->len, ALLOWANCE, work, NETKAT_WORK_LEN(ALLOWANCE), core, sizeof core);
     if (refused(made)) return;
-    printf("  core of %u bytes, %u nodes drawn of %d:\n", made.first, made.second, ALLOWANCE);
+    printf("  core of %u bytes, %u nodes drawn of %d\n", made.first, made.second, ALLOWANCE);
     print_core(core, made.first);
 }
 
