@@ -1,4 +1,4 @@
-//! The operations on terms that are bytes already.
+//! The operations on terms and cores that are bytes already.
 //!
 //! Each answers as the function of `include/netkat.h` that has its name behind `netkat_`; buffers and work memory are allocated
 //! here.
@@ -13,7 +13,7 @@
 //! ```
 
 use crate::limits::{MAX_LITERAL_BITS, MAX_RECORDS};
-use crate::{desugarer, ffi, Refusal};
+use crate::{desugarer, ffi, slots, CoreRecord, Refusal};
 
 /// The most bytes of a literal, with its length.
 const MAX_LITERAL_BYTES: usize = 1 + MAX_LITERAL_BITS.div_ceil(8);
@@ -61,4 +61,34 @@ pub fn is_test_fragment(term: &[u8]) -> Result<bool, Refusal> {
 /// there is none. 25 for an Assign or Test of field 4,294,967,295.
 pub fn num_fields(term: &[u8]) -> Result<u32, Refusal> {
     ffi::num_fields(term).map(|(first, _)| first)
+}
+
+/// What [`read_core`] reads.
+#[derive(Clone, Debug, PartialEq, Eq)]
+#[non_exhaustive]
+pub struct CoreRecords {
+    /// All records in prefix order, at least one. A kind says how many children follow.
+    pub records: Vec<CoreRecord>,
+    /// One more than the greatest field of an Assign or Test; 0 where there is none.
+    pub num_fields: u32,
+}
+
+/// The records of a core and its field count, for a solver that has a table of its own; [`Core::from_bytes`](crate::Core::from_bytes)
+/// makes the tree. Refused as that is. The list that the library writes them to is kept for the thread's next call.
+///
+/// ```
+/// use netkat::{bytes, Kind};
+///
+/// let core = bytes::desugar(&[0x49, 0x18, 2, 0, 0, 0, 2, 1]).unwrap();
+/// let read = bytes::read_core(&core).unwrap();
+/// assert_eq!(read.num_fields, 2);
+/// let records: Vec<_> = read.records.iter().map(|r| (r.kind, r.field, r.value)).collect();
+/// assert_eq!(records, [(Kind::Intersect, 0, false), (Kind::Test, 0, true), (Kind::Test, 1, false)]);
+/// ```
+pub fn read_core(core: &[u8]) -> Result<CoreRecords, Refusal> {
+    desugarer::with_kept(|desugarer| {
+        let (numbers, num_fields) = desugarer.read_core(core)?;
+        let records = slots::slots_of_records(numbers).map(|slot| CoreRecord::of(&slot)).collect();
+        Ok(CoreRecords { records, num_fields })
+    })
 }

@@ -37,7 +37,7 @@ impl Expr {
 impl Core {
     /// The union of two cores.
     pub fn union(a: &Core, b: &Core) -> Core {
-        joined(Kind::Union, &a.to_bytes(), &b.to_bytes())
+        joined(Kind::Union, a, b)
     }
 
     /// One core after the other, as it stands. (Desugaring a `;` leaves out a `1` on either side, and that of an if does not.)
@@ -52,7 +52,7 @@ impl Core {
     /// assert_eq!(Core::union(&then, &otherwise), core(&Expr::if_then_else(test, a, b)));
     /// ```
     pub fn sequence(a: &Core, b: &Core) -> Core {
-        joined(Kind::Sequence, &a.to_bytes(), &b.to_bytes())
+        joined(Kind::Sequence, a, b)
     }
 
     /// The union of all cores, grouped as [`Expr::union_all`] groups terms; `Zero` of none.
@@ -77,12 +77,14 @@ impl Core {
         let Some(bytes) = balanced(cores.into_iter().map(|core| core.to_bytes()), union) else {
             return Core::default();
         };
-        Core::from_bytes(&bytes).expect("the bytes of a Union and of cores")
+        // Mostly, tests and assignments of seven bytes have an operator of two bytes each.
+        Core::of_good_form(&bytes, bytes.len() / 4)
     }
 }
 
-fn joined(operator: Kind, a: &[u8], b: &[u8]) -> Core {
-    Core::from_bytes(&[&[1, operator.number()], a, b].concat()).expect("the bytes of an operator and of cores")
+fn joined(operator: Kind, a: &Core, b: &Core) -> Core {
+    let bytes = [&[1, operator.number()], &a.to_bytes()[..], &b.to_bytes()].concat();
+    Core::of_good_form(&bytes, 1 + a.len() + b.len())
 }
 
 /// Joins neighbours, then the joined neighbours, until one is left.

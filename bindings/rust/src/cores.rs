@@ -1,7 +1,9 @@
 use std::fmt;
 
 use crate::debug;
+use crate::desugarer::with_kept;
 use crate::node::Node;
+use crate::record::refusal;
 use crate::slots::{self, Slot};
 use crate::{Exp, Expr, Field, Kind, Refusal, Value};
 
@@ -47,6 +49,23 @@ use crate::{Exp, Expr, Field, Kind, Refusal, Value};
 /// }
 /// let core = desugar(&Expr::bit_range_test(0, 100, vec![true; 100])).unwrap();
 /// assert_eq!(depth(&core), 100);
+/// ```
+///
+/// A core is stored as its bytes. Equal cores have equal bytes, whoever wrote them.
+///
+/// ```
+/// use netkat::{desugar, Core, Expr};
+///
+/// # let path = std::env::temp_dir().join(format!("netkat-core-{}", std::process::id()));
+/// let core = desugar(&Expr::bit_range_test(0, 2, vec![true, false]))?;
+/// std::fs::write(&path, core.to_bytes())?;
+///
+/// // Days later:
+/// let again = Core::from_bytes(&std::fs::read(&path)?)?;
+/// assert_eq!(again, core);
+/// assert_eq!((again.len(), again.num_fields()?), (3, 2));
+/// # std::fs::remove_file(&path)?;
+/// # Ok::<(), Box<dyn std::error::Error>>(())
 /// ```
 #[derive(Clone, PartialEq, Eq, Hash)]
 pub struct Core {
@@ -101,8 +120,8 @@ impl Core {
         }
     }
 
-    /// The core of the bytes. Refused by 1 to 5 and 8 as terms are, and by 2 for a kind above 15. There is no limit on depth; 6 is
-    /// the refusal of a core with more than 4,294,967,295 nodes.
+    /// The core of the bytes, which need not be trusted: the library reads them, and judges their form. What [`desugar()`](crate::desugar())
+    /// makes and [`Core::to_bytes`] writes comes back as it was.
     ///
     /// ```
     /// use netkat::{Core, View};
@@ -111,27 +130,38 @@ impl Core {
     /// let View::Star(body) = core.root().view() else { panic!() };
     /// assert_eq!(body.view(), View::Test(3, true));
     /// ```
+    ///
+    /// Refused by 1 to 5 and 8 as terms are, by 41 for a kind that only a term has, and by 42 for more than
+    /// [`MAX_CORE_RECORDS`](crate::limits::MAX_CORE_RECORDS) nodes; there is no limit on depth. Then by 25 for an Assign or Test of field
+    /// 4,294,967,295, which desugaring leaves in a core: the field count of such a core is beyond 32 bits.
+    ///
+    /// ```
+    /// use netkat::Core;
+    ///
+    /// let cut_off = Core::from_bytes(&[1, 14, 0x25, 6, 3, 0]).unwrap_err();
+    /// assert_eq!(cut_off.to_string(), "the bytes end before the policy or core is complete (record 1, refusal 1)");
+    /// let variable = Core::from_bytes(&[1, 14, 1, 20]).unwrap_err();
+    /// assert_eq!(variable.to_string(), "a core has no expression of this kind: desugaring replaces it (record 1, refusal 41)");
+    /// ```
     pub fn from_bytes(bytes: &[u8]) -> Result<Self, Refusal> {
-        // Mostly, tests and assignments of seven bytes have an operator of two bytes each.
-        Self::of_bytes(bytes, bytes.len() / 4)
+        with_kept(|desugarer| desugarer.read_core(bytes).map(|(records, _)| Self::of_slots(slots::of_records(records))))
     }
 
     /// The core that the library wrote, whose steps drew so many nodes.
     pub(crate) fn of_library(bytes: &[u8], drawn: u32) -> Self {
         // A core has no more nodes than were drawn. An operator of two bytes with two Zeros of one is the shortest tree.
-        let nodes = (drawn as usize).min(bytes.len() * 2 / 3 + 1);
-        Self::of_bytes(bytes, nodes).expect(slots::GOOD_FORM)
+        Self::of_good_form(bytes, (drawn as usize).min(bytes.len() * 2 / 3 + 1))
     }
 
-    /// The core of the bytes, which has about so many nodes.
-    fn of_bytes(bytes: &[u8], nodes: usize) -> Result<Self, Refusal> {
+    /// The core of bytes that the library or this crate wrote, which has about so many nodes.
+    pub(crate) fn of_good_form(bytes: &[u8], nodes: usize) -> Self {
         let mut slots = Vec::with_capacity(nodes);
-        slots::decode(bytes, &mut slots)?;
+        slots::decode(bytes, &mut slots);
         slots.shrink_to_fit();
-        Ok(Self::of_slots(slots))
+        Self::of_slots(slots)
     }
 
-    /// The bytes of the core.
+    /// The bytes of the core, as the library writes them.
     ///
     /// ```
     /// use netkat::{Core, Expr};
@@ -143,8 +173,8 @@ impl Core {
         slots::encode(self.slots())
     }
 
-    /// The core that an expression is, if it has only kinds of a core. Refused by 2 at the first node of another kind, for which
-    /// there is [`desugar()`](crate::desugar()).
+    /// The core that an expression is, if it has only kinds of a core. Refused by 41 at the first node of another kind, for which
+    /// there is [`desugar()`](crate::desugar()), and by 42 for more than 4,294,967,295 nodes.
     ///
     /// ```
     /// use netkat::{Core, Expr};
@@ -153,7 +183,7 @@ impl Core {
     /// assert_eq!(Core::from_expr(&written).unwrap().to_expr(), written);
     ///
     /// let refusal = Core::from_expr(&Expr::star(Expr::var(1))).unwrap_err();
-    /// assert_eq!((refusal.number, refusal.place), (2, 1));
+    /// assert_eq!((refusal.number, refusal.place), (41, 1));
     /// ```
     pub fn from_expr(expr: &Expr) -> Result<Self, Refusal> {
         slots::of_expr(expr).map(Self::of_slots)
@@ -213,6 +243,25 @@ impl Core {
     #[allow(clippy::len_without_is_empty)] // A core is never empty.
     pub fn len(&self) -> usize {
         self.slots().len()
+    }
+
+    /// The field count: one more than the greatest field of an Assign or Test, 0 where there is none. Refused by 25 at the first of field
+    /// 4,294,967,295; a core that was read by [`Core::from_bytes`] has none.
+    ///
+    /// ```
+    /// use netkat::{desugar, Expr};
+    ///
+    /// assert_eq!(desugar(&Expr::bit_range_test(4, 6, vec![true, false])).unwrap().num_fields(), Ok(6));
+    /// assert_eq!(desugar(&Expr::dup()).unwrap().num_fields(), Ok(0));
+    /// ```
+    pub fn num_fields(&self) -> Result<u32, Refusal> {
+        let mut count = 0;
+        for (place, slot) in self.slots().iter().enumerate() {
+            if matches!(slot.kind, Kind::Assign | Kind::Test) {
+                count = count.max(slot.number.checked_add(1).ok_or_else(|| refusal(25, place))?);
+            }
+        }
+        Ok(count)
     }
 }
 

@@ -17,11 +17,13 @@ pub(crate) fn with_kept<T>(mut call: impl FnMut(&mut Desugarer) -> T) -> T {
     kept.ok().flatten().unwrap_or_else(|| call(&mut Desugarer::new()))
 }
 
-/// Frees the memory that [`desugar()`], [`desugar_to_expr`] and [`bytes::desugar`](crate::bytes::desugar) keep for this thread. The
-/// next call allocates it anew; a thread that ends frees it by itself.
+/// Frees the memory that [`desugar()`], [`desugar_to_expr`], [`Core::from_bytes`], [`bytes::desugar`](crate::bytes::desugar) and
+/// [`bytes::read_core`](crate::bytes::read_core) keep for this thread. The next call allocates it anew; a thread that ends frees it by
+/// itself.
 ///
 /// It is lent to the library without being cleared, so that pages which no policy needed take no memory: on Linux 4 to
-/// 8 KiB are resident after a policy of some nodes, some 70 KiB after one of 3,500, 0.7 to 0.8 MB after one of 43,000.
+/// 8 KiB are resident after a policy of some nodes, some 70 KiB after one of 3,500, 0.7 to 0.8 MB after one of 43,000. To read a core takes
+/// 12 bytes for each of its nodes, in the same memory.
 ///
 /// ```
 /// use netkat::{desugar, release_memory, Expr};
@@ -175,7 +177,7 @@ impl Desugarer {
         if drawn == 1 {
             return Ok(leaf(bytes).to_expr());
         }
-        slots::decode(bytes, &mut self.slots).expect(slots::GOOD_FORM);
+        slots::decode(bytes, &mut self.slots);
         Ok(slots::to_expr(&self.slots, &mut self.complete))
     }
 
@@ -192,6 +194,11 @@ impl Desugarer {
     pub fn desugar_bytes(&mut self, term: &[u8]) -> Result<DesugaredBytes<'_>, Refusal> {
         let (core, drawn) = self.memory.desugar(term, self.allowance)?;
         Ok(DesugaredBytes { core, drawn })
+    }
+
+    /// The records of a core in bytes, three numbers each, and its field count. The allowance has no part in it.
+    pub(crate) fn read_core(&mut self, core: &[u8]) -> Result<(&[u32], u32), Refusal> {
+        self.memory.read_core(core)
     }
 }
 

@@ -6,7 +6,8 @@ use crate::display::{self, NameText};
 use crate::limits::{MAX_CIDR_PREFIX, MAX_LEVELS, MAX_LITERAL_BITS, MAX_RANGE_PATTERN_FIELDS, MAX_RECORDS};
 use crate::literal::{grouped, value, Literal};
 use crate::outline::Outline;
-use crate::{Desugarer, Expr, Field, FormFault, Names, Pattern, Refusal, RefusalKind};
+use crate::record::NAMES;
+use crate::{Desugarer, Expr, Field, FormFault, Kind, Names, Pattern, Refusal, RefusalKind};
 
 /// How many characters of a part of the policy are shown: room for a match of two literals of 192 bits.
 const SHOWN: usize = 144;
@@ -39,7 +40,7 @@ impl Refusal {
     /// # Ok::<(), netkat::ParsePatternError>(())
     /// ```
     ///
-    /// Numbers that are not about a record of a policy (1 to 4 and 8 about bytes, 9, 10, 26 to 28) give the sentence that the refusal's
+    /// Numbers that are not about a record of a policy (1 to 4 and 8 about bytes, 9, 10, 26 to 28, 42) give the sentence that the refusal's
     /// `Display` gives. So does a policy that is not the refused one, and then the text says so.
     pub fn explain(&self, policy: &Expr, names: &Names) -> String {
         if !self.is_about_a_tree() {
@@ -47,8 +48,8 @@ impl Refusal {
         }
         let outline = Outline::of(policy);
         let place = self.place as usize;
-        // A tree beyond the limits is refused by them and by nothing else.
-        let too_large = matches!(self.number, 11..=25) && outline.spots.len() > MAX_RECORDS;
+        // A tree beyond the limits is refused by them and by nothing else. A core has others, and its fields are counted too.
+        let too_large = matches!(self.number, 11..=24) && outline.spots.len() > MAX_RECORDS;
         let Some(spot) = outline.spots.get(place).filter(|_| !too_large) else {
             return format!("{self}\n  the policy given here has no record {place}, or is beyond the limits: it is not the one that was refused");
         };
@@ -62,7 +63,7 @@ impl Refusal {
 
     /// Whether a tree can cause the refusal, at one of its records.
     fn is_about_a_tree(&self) -> bool {
-        matches!(self.number, 5..=7 | 11..=25 | 35..=37)
+        matches!(self.number, 5..=7 | 11..=25 | 35..=37 | 41)
     }
 }
 
@@ -117,6 +118,7 @@ impl At<'_> {
                 )),
                 _ => None,
             },
+            RefusalKind::TermKind => self.term_kind(),
             _ => self.widths(kind),
         }
     }
@@ -225,6 +227,12 @@ impl At<'_> {
         } else {
             Some(format!("{rule}, and `{}` is not one because of `{}` at record {culprit}", shown(operand), shown(culprit)))
         }
+    }
+
+    fn term_kind(&self) -> Option<String> {
+        let kind = self.node.record().kind;
+        let of_core = Kind::from_number(kind).is_some();
+        (!of_core).then(|| format!("a core has no {}: desugaring replaces it", NAMES[usize::from(kind)]))
     }
 
     /// The rules on the widths of values and patterns, 15 to 21.

@@ -6,6 +6,7 @@
 
 use std::ops::Range;
 
+use crate::limits::MAX_CORE_RECORDS;
 use crate::Refusal;
 
 #[repr(C)]
@@ -51,6 +52,7 @@ extern "C" {
         b_len: usize,
         b_bits: u32,
     ) -> Answer;
+    fn netkat_read_core(core: *const u8, core_len: usize, records: *mut u32, records_len: usize) -> Answer;
     fn netkat_version() -> u32;
 }
 
@@ -72,9 +74,9 @@ pub(crate) fn check(term: &[u8]) -> Values {
     unsafe { netkat_check(term.as_ptr(), term.len()) }.values()
 }
 
-/// What the library is lent to make a core: work memory and an answer buffer.
+/// What the library is lent to make a core: work memory and an answer buffer. To read one, the work memory is the record list.
 ///
-/// Neither is cleared, and the vectors' lengths are kept at 0 but for the answer: pages that no call has touched take no memory.
+/// Neither is cleared, and the vectors' lengths are 0 but for the answer: pages that no call has touched take no memory.
 pub(crate) struct Memory {
     work: Vec<u32>,
     out: Vec<u8>,
@@ -92,6 +94,7 @@ impl Memory {
 
     /// The bytes of the term's core, and the drawn total.
     pub fn desugar(&mut self, term: &[u8], allowance: u32) -> Result<(&[u8], u32), Refusal> {
+        self.work.clear();
         self.out.clear();
         let (work, out) = (self.work.spare_capacity_mut(), self.out.spare_capacity_mut());
         let (work_len, out_len) = (work.len(), out.len());
@@ -114,6 +117,23 @@ impl Memory {
         // SAFETY: the capacity is not exceeded, and on success the library has written the core's bytes, as many as `length`.
         unsafe { self.out.set_len(length as usize) };
         Ok((&self.out, drawn))
+    }
+
+    /// The records of a core, three numbers each, and the field count.
+    pub fn read_core(&mut self, core: &[u8]) -> Result<(&[u32], u32), Refusal> {
+        self.work.clear();
+        // A record has at least one byte, so that a list of this length is never refused by 10.
+        let list_len = 3 * core.len().min(MAX_CORE_RECORDS);
+        self.work.reserve(list_len);
+        // SAFETY: the first pointer and its length are those of a slice; behind the second there is room for so many numbers, which are
+        // borrowed mutably, so nothing overlaps them. They are not initialised, and the library does not read them.
+        let answer = unsafe { netkat_read_core(core.as_ptr(), core.len(), self.work.as_mut_ptr(), list_len) };
+        let (count, fields) = answer.values()?;
+        let numbers = 3 * count as usize;
+        assert!(numbers <= list_len, "the records lie in their list");
+        // SAFETY: the capacity is not exceeded, and on success the library has written three numbers for each record.
+        unsafe { self.work.set_len(numbers) };
+        Ok((&self.work, fields))
     }
 }
 

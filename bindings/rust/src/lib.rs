@@ -32,9 +32,10 @@
 //! | making the core of a term | [`desugar()`]; with an allowance, [`Desugarer`]; as a boxed tree, [`desugar_to_expr`] |
 //! | what a pattern will draw on the allowance | [`cost()`] |
 //! | what the core is | [`Core`], [`Node`], [`View`] |
+//! | storing a core and reading it back | [`Core::to_bytes`], [`Core::from_bytes`] |
 //! | why there is no answer | [`Refusal`], [`Refusal::explain`] |
 //! | how large a policy can be, and what to do with more | [`limits`] |
-//! | terms that are bytes already | [`bytes`] |
+//! | terms and cores that are bytes already | [`bytes`] |
 //! | the memory that a thread keeps | [`release_memory`] |
 //!
 //! The origin of the library, and of the names here, is KATch2 (<https://github.com/julesjacobs/KATch2>, MIT), called "the original" on

@@ -33,7 +33,6 @@ pub(crate) mod kind {
     pub const BIT_RANGE_MATCH: u8 = 25;
     pub const VAR_MATCH: u8 = 26;
 
-    pub const LAST_OF_CORE: u8 = LTL_NEXT;
     pub const LAST: u8 = VAR_MATCH;
 }
 
@@ -175,13 +174,13 @@ impl Record<Vec<bool>> {
         }
     }
 
-    /// Reads one record whose kind is at most `last_kind`. A refusal is its number.
-    pub fn read(bytes: &mut Input, last_kind: u8) -> Result<Self, u32> {
+    /// Reads one record. A refusal is its number.
+    pub fn read(bytes: &mut Input) -> Result<Self, u32> {
         let map = bytes.byte()?;
         let mut record = Record::<Vec<bool>>::default();
         if map & KIND != 0 {
             record.kind = nonzero(bytes.byte()?)?;
-            if record.kind > last_kind {
+            if record.kind > kind::LAST {
                 return Err(2);
             }
         }

@@ -2,15 +2,15 @@ use std::borrow::Cow;
 use std::error::Error;
 use std::fmt;
 
-use crate::limits::{MAX_CIDR_PREFIX, MAX_LEVELS, MAX_LITERAL_BITS, MAX_RANGE_PATTERN_FIELDS, MAX_RECORDS};
+use crate::limits::{MAX_CIDR_PREFIX, MAX_CORE_RECORDS, MAX_LEVELS, MAX_LITERAL_BITS, MAX_RANGE_PATTERN_FIELDS, MAX_RECORDS};
 use crate::literal::grouped;
 
 /// Why there is no answer: a number of the requirement, and a place.
 ///
-/// Numbers are 1 to 28 and 31 to 38. The place of 1 to 7 and of 11 to 25 is the index of a record in the term, from 0 in written
-/// order; that of 8 is the number of records; that of 31 to 38 counts in the replacement; that of 9, 10 and 26 to 28 is 0, and so is
-/// each of [`cost()`](crate::cost()). A record has the same index in [`Expr::nodes`](crate::Expr::nodes), so that the part of the policy
-/// can be shown:
+/// Numbers are 1 to 28, 31 to 38, 41 and 42. The place of 1 to 7, 11 to 25, 41 and 42 is the index of a record in the term, or in the core
+/// that is read, from 0 in written order; that of 8 is the number of records; that of 31 to 38 counts in the replacement; that of 9, 10 and
+/// 26 to 28 is 0, and so is each of [`cost()`](crate::cost()). A record has the same index in [`Expr::nodes`](crate::Expr::nodes), so that
+/// the part of the policy can be shown:
 ///
 /// ```
 /// use netkat::{Expr, RefusalKind};
@@ -38,11 +38,11 @@ pub struct Refusal {
 #[derive(Clone, Copy, Debug, PartialEq, Eq, Hash)]
 #[non_exhaustive]
 pub enum RefusalKind {
-    /// 1 to 8: the term is not of good form.
+    /// 1 to 8: the term is not of good form; 1 to 5 and 8, the core that is read is not.
     Form(FormFault),
     /// 9: the allowance is not 1 to 65,535.
     Allowance,
-    /// 10: too little work memory. [`Desugarer`](crate::Desugarer) always lends enough.
+    /// 10: too little work memory, or a list that is too short for the records of a core. The functions of this crate always lend enough.
     WorkMemory,
     /// 11: an unknown alias in an assignment, a test or a match.
     UnknownAlias,
@@ -82,11 +82,15 @@ pub enum RefusalKind {
     SubrangeOutside,
     /// 31 to 38: the replacement of a substitution is not of good form. The place counts in the replacement.
     Replacement(FormFault),
+    /// 41: a kind that only a term has, in what is to be a core.
+    TermKind,
+    /// 42: a core of more than 65,535 nodes.
+    CoreTooLarge,
     /// Any other number. The library gives none.
     Unknown,
 }
 
-/// How a term's form is broken: numbers 1 to 8 for a term, 31 to 38 for a replacement. There may be more.
+/// How a form is broken: numbers 1 to 8 for a term, of which 6 and 7 do not apply to a core, 31 to 38 for a replacement. There may be more.
 #[derive(Clone, Copy, Debug, PartialEq, Eq, Hash)]
 #[non_exhaustive]
 pub enum FormFault {
@@ -125,7 +129,7 @@ impl FormFault {
 
     fn sentence(self) -> Cow<'static, str> {
         let sentence = match self {
-            Self::EndsEarly => "the bytes end before the policy is complete",
+            Self::EndsEarly => "the bytes end before the policy or core is complete",
             Self::UnknownKind => "the bytes name a kind of expression that does not exist here",
             Self::ForeignField => "the bytes give this kind of expression a part that it does not have",
             Self::ZeroWritten => "the bytes write out a part that is zero or empty, or set bits beyond the end of a value",
@@ -139,7 +143,7 @@ impl FormFault {
                 return Cow::from(format!("the policy has more than {} expressions", grouped(MAX_RECORDS as u64)))
             }
             Self::TooDeep => return Cow::from(format!("the policy is nested more than {MAX_LEVELS} levels deep")),
-            Self::LeftOver => "there are bytes left over behind the end of the policy",
+            Self::LeftOver => "there are bytes left over behind the end of the policy or core",
         };
         Cow::from(sentence)
     }
@@ -174,6 +178,8 @@ impl RefusalKind {
             26 => Self::BufferTooShort,
             27 => Self::ResultTooLarge,
             28 => Self::SubrangeOutside,
+            41 => Self::TermKind,
+            42 => Self::CoreTooLarge,
             _ => Self::Unknown,
         }
     }
@@ -182,7 +188,7 @@ impl RefusalKind {
         let sentence = match self {
             Self::Form(fault) | Self::Replacement(fault) => return fault.sentence(),
             Self::Allowance => "the allowance must be from 1 to 65,535 nodes",
-            Self::WorkMemory => "the work memory is too small for the allowance",
+            Self::WorkMemory => "the work memory is too small for the allowance, or the list for the records of the core",
             Self::UnknownAlias => "no let around this use gives the alias a range of fields",
             Self::UnboundVariable => "no let around this use defines the variable",
             Self::AliasAsVariable => {
@@ -211,6 +217,10 @@ impl RefusalKind {
                 return Cow::from(format!("with the replacement, the policy has more than {records} expressions or {MAX_LEVELS} levels"));
             }
             Self::SubrangeOutside => "the part that is asked for does not lie inside the alias's range",
+            Self::TermKind => "a core has no expression of this kind: desugaring replaces it",
+            Self::CoreTooLarge => {
+                return Cow::from(format!("the core has more than {} nodes", grouped(MAX_CORE_RECORDS as u64)))
+            }
             Self::Unknown => "the library gave a refusal that is not known here",
         };
         Cow::from(sentence)

@@ -1,7 +1,7 @@
 //! The memory of a core: a slot of eight bytes for each node, in prefix order. Nothing here recurses: a core can be as deep as it is
 //! large.
 
-use crate::record::{kind, refusal, Input, Record};
+use crate::record::{kind, refusal, Record};
 use crate::{Exp, Expr, Kind, Refusal, Value};
 
 /// A node. Its first child, if it has one, is the next slot.
@@ -48,8 +48,8 @@ struct Builder<'a> {
     complete: bool,
 }
 
-/// Why bytes of the library are not refused.
-pub(crate) const GOOD_FORM: &str = "the library writes cores of good form";
+/// Why bytes that were just written are not refused.
+pub(crate) const GOOD_FORM: &str = "the library and this crate write cores of good form";
 
 /// Ends the list of pending operators; no index.
 const NONE: u32 = u32::MAX;
@@ -61,9 +61,9 @@ impl<'a> Builder<'a> {
         Builder { slots, pending: NONE, complete: false }
     }
 
-    /// Appends a node. Refused by 6 if its index does not fit in a slot.
+    /// Appends a node. Refused by 42 if its index does not fit in a slot.
     fn push(&mut self, slot: Slot) -> Result<(), u32> {
-        let index = u32::try_from(self.slots.len()).ok().filter(|index| *index < NONE).ok_or(6u32)?;
+        let index = u32::try_from(self.slots.len()).ok().filter(|index| *index < NONE).ok_or(42u32)?;
         self.slots.push(slot);
         match slot.kind.arity() {
             0 => match self.slots.get_mut(self.pending as usize) {
@@ -116,33 +116,47 @@ impl<'a> Builder<'a> {
         bytes
     }
 
-    /// Reads a record: quickly if its form is good, else as a record of a term, for the refusal.
-    fn read<'b>(&mut self, bytes: &'b [u8]) -> Result<&'b [u8], u32> {
-        if let Some((slot, length)) = slot_of_bytes(bytes) {
-            if let Some(rest) = bytes.get(length..) {
-                self.push(slot)?;
-                return Ok(rest);
-            }
-        }
-        let mut input = Input(bytes);
-        let record = Record::read(&mut input, kind::LAST_OF_CORE)?;
-        self.push(slot_of(&record).ok_or(2u32)?)?;
-        Ok(input.0)
+    /// Reads a record of good form. Gives the bytes behind it.
+    fn read<'b>(&mut self, bytes: &'b [u8]) -> Option<&'b [u8]> {
+        let (slot, length) = slot_of_bytes(bytes)?;
+        let rest = bytes.get(length..)?;
+        self.push(slot).ok()?;
+        Some(rest)
     }
 }
 
-/// Replaces `slots` by those of the bytes of a core, or gives the refusal of their form.
-pub(crate) fn decode(bytes: &[u8], slots: &mut Vec<Slot>) -> Result<(), Refusal> {
+/// Replaces `slots` by those of the bytes of a core that the library or this crate wrote. Others are read by the library: see
+/// [`of_records`].
+///
+/// # Panics
+///
+/// If they are not of good form, or more than slots can be.
+pub(crate) fn decode(bytes: &[u8], slots: &mut Vec<Slot>) {
     let mut builder = Builder::new(slots);
     let mut rest = bytes;
     while !builder.complete {
         rest = builder.read_common(rest);
-        rest = builder.read(rest).map_err(|number| refusal(number, builder.slots.len()))?;
+        rest = builder.read(rest).expect(GOOD_FORM);
     }
-    if !rest.is_empty() {
-        return Err(refusal(8, builder.slots.len()));
+    assert!(rest.is_empty(), "{GOOD_FORM}");
+}
+
+/// The slots of a core's records as the library reads them, three numbers each.
+pub(crate) fn of_records(numbers: &[u32]) -> Vec<Slot> {
+    let mut slots = Vec::with_capacity(numbers.len() / 3);
+    let mut builder = Builder::new(&mut slots);
+    for slot in slots_of_records(numbers) {
+        builder.push(slot).expect("the library reads at most 65,535 records");
     }
-    Ok(())
+    slots
+}
+
+/// The slots of the records, before second children are known.
+pub(crate) fn slots_of_records(numbers: &[u32]) -> impl Iterator<Item = Slot> + '_ {
+    numbers.chunks_exact(3).map(|record| {
+        let kind = u8::try_from(record[0]).ok().and_then(Kind::from_number).expect("the library reads kinds of a core");
+        Slot { kind, value: record[2] == 1, number: record[1] }
+    })
 }
 
 /// The slot of bytes that are one leaf of good form. Bytes that were just written are read in the pieces that they were written in: the
@@ -299,12 +313,12 @@ fn binary(slot: &Slot, first: Exp, second: Exp) -> Exp {
     }
 }
 
-/// The slots of an expression that has only kinds of the core, else 2 at the first node of another kind.
+/// The slots of an expression that has only kinds of the core, else 41 at the first node of another kind.
 pub(crate) fn of_expr(expr: &Expr) -> Result<Vec<Slot>, Refusal> {
     let mut slots = Vec::new();
     let mut builder = Builder::new(&mut slots);
     for (place, node) in expr.nodes().enumerate() {
-        let pushed = slot_of(&node.record()).ok_or(2).and_then(|slot| builder.push(slot));
+        let pushed = slot_of(&node.record()).ok_or(41).and_then(|slot| builder.push(slot));
         pushed.map_err(|number| refusal(number, place))?;
     }
     slots.shrink_to_fit();

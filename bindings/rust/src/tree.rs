@@ -56,9 +56,7 @@ pub(crate) fn decode(bytes: &[u8]) -> Result<Exp, Refusal> {
         }
         *left -= 1;
         let place = records.len();
-        let record = admit(place, open.len())
-            .and_then(|()| Record::read(&mut input, kind::LAST))
-            .map_err(|number| refusal(number, place))?;
+        let record = admit(place, open.len()).and_then(|()| Record::read(&mut input)).map_err(|number| refusal(number, place))?;
         open.push(record.children());
         records.push(record);
     }

@@ -1,4 +1,4 @@
-//! Cores: the nodes beside the boxed tree, and the reader of core bytes beside a plain reading of the requirement.
+//! Cores: the nodes beside the boxed tree.
 
 #[allow(dead_code)] // Terms are for other tests.
 mod common;
@@ -6,44 +6,8 @@ mod common;
 use std::collections::hash_map::DefaultHasher;
 use std::hash::{Hash, Hasher};
 
-use common::Random;
-use netkat::{bytes, desugar, Core, Exp, Expr, Kind, Node, Refusal, View};
-
-/// A random expression that is a core, of at most `depth` levels.
-fn core_expr(random: &mut Random, depth: usize) -> Exp {
-    let fields = [0, 1, 7, 255, 256, 0x0102_0304, u32::MAX];
-    let mut field = || fields[random.below(fields.len())];
-    let (f, g) = (field(), field());
-    let value = random.below(2) == 1;
-    let below = |random: &mut Random| core_expr(random, depth - 1);
-    match random.below(if depth > 1 { 22 } else { 10 }) {
-        0 => Expr::zero(),
-        1 => Expr::one(),
-        2 => Expr::top(),
-        3 => Expr::dup(),
-        4 => Expr::end(),
-        5 | 6 => Expr::assign(f, value),
-        7..=9 => Expr::test(g, value),
-        10 | 11 => Expr::union(below(random), below(random)),
-        12 | 13 => Expr::intersect(below(random), below(random)),
-        14 => Expr::xor(below(random), below(random)),
-        15 => Expr::difference(below(random), below(random)),
-        16 | 17 => Expr::sequence(below(random), below(random)),
-        18 => Expr::ltl_until(below(random), below(random)),
-        19 => Expr::complement(below(random)),
-        20 => Expr::star(below(random)),
-        _ => Expr::ltl_next(below(random)),
-    }
-}
-
-fn core_exprs(seed: u64, count: usize) -> impl Iterator<Item = Exp> {
-    let mut random = Random::new(seed);
-    std::iter::repeat_with(move || {
-        let depth = 1 + random.below(9);
-        core_expr(&mut random, depth)
-    })
-    .take(count)
-}
+use common::core_exprs;
+use netkat::{desugar, Core, Exp, Expr, Kind, Node, View};
 
 /// The children of a view, or the field and value.
 fn parts<'a>(view: View<'a>) -> (Vec<Node<'a>>, Option<(u32, bool)>) {
@@ -82,7 +46,6 @@ fn nodes_and_the_boxed_tree() {
         assert_eq!(format!("{core:?}"), format!("{expr:?}"));
         assert_eq!(format!("{core:#?}"), format!("{expr:#?}"));
         assert_eq!(core.to_bytes(), expr_bytes(&expr));
-        assert_eq!(Core::from_bytes(&core.to_bytes()).as_ref(), Ok(&core));
         assert_eq!(Core::try_from(&*expr).as_ref(), Ok(&core));
         assert_eq!(Exp::from(&core), expr);
     }
@@ -183,113 +146,7 @@ fn expressions_that_are_no_cores() {
     for other in others {
         let expr = Expr::union(Expr::star(Expr::dup()), other);
         assert_eq!(Core::from_expr(&expr).unwrap_err(), Core::from_bytes(&expr.to_bytes().unwrap()).unwrap_err());
-        assert_eq!(Core::from_expr(&expr).map_err(|r| (r.number, r.place)), Err((2, 3)));
-    }
-}
-
-/// Kind, field and value.
-type Plain = (u8, u32, bool);
-
-/// The records of a core, read plainly: the requirement's "Term bytes" with the kinds 0 to 15.
-fn plain_reading(bytes: &[u8]) -> Result<Vec<Plain>, (u32, u32)> {
-    let mut records = Vec::new();
-    let mut rest = bytes;
-    let mut open = 1;
-    while open > 0 {
-        let record = plain_record(&mut rest).map_err(|number| (number, records.len() as u32))?;
-        open = open - 1 + [0, 0, 0, 0, 0, 0, 0, 2, 2, 2, 2, 2, 2, 1, 1, 1][usize::from(record.0)];
-        records.push(record);
-    }
-    if !rest.is_empty() {
-        return Err((8, records.len() as u32));
-    }
-    Ok(records)
-}
-
-fn plain_record(rest: &mut &[u8]) -> Result<Plain, u32> {
-    fn number(rest: &mut &[u8], bytes: usize) -> Result<u32, u32> {
-        if rest.len() < bytes {
-            return Err(1);
-        }
-        let (front, back) = rest.split_at(bytes);
-        *rest = back;
-        Ok(front.iter().rev().fold(0, |number, byte| number << 8 | u32::from(*byte)))
-    }
-    fn written(rest: &mut &[u8], bytes: usize) -> Result<u32, u32> {
-        number(rest, bytes).and_then(|number| if number == 0 { Err(4) } else { Ok(number) })
-    }
-    let map = number(rest, 1)?;
-    let kind = if map & 1 != 0 { written(rest, 1)? } else { 0 };
-    if kind > 15 {
-        return Err(2);
-    }
-    let may_have = if matches!(kind, 5 | 6) { 1 | 4 | 32 } else { 1 };
-    if map & !may_have != 0 {
-        return Err(3);
-    }
-    let field = if map & 4 != 0 { written(rest, 4)? } else { 0 };
-    let value = if map & 32 != 0 { written(rest, 1)? } else { 0 };
-    if value > 1 {
-        return Err(5);
-    }
-    Ok((kind as u8, field, value == 1))
-}
-
-/// Compares the two readings; gives the refusal's number, 0 for none.
-fn same_reading(bytes: &[u8]) -> u32 {
-    let read = Core::from_bytes(bytes);
-    let records = |core: &Core| core.records().map(|r| (r.kind.number(), r.field, r.value)).collect::<Vec<_>>();
-    let shown = read.as_ref().map(records).map_err(|refusal| (refusal.number, refusal.place));
-    assert_eq!(shown, plain_reading(bytes), "{bytes:?}");
-    match read {
-        Ok(core) => {
-            assert_eq!(core.to_bytes(), bytes);
-            assert_eq!(Core::from_expr(&core.to_expr()), Ok(core));
-            0
-        }
-        Err(refusal) => refusal.number,
-    }
-}
-
-#[test]
-fn short_strings() {
-    same_reading(&[]);
-    for first in 0..=255 {
-        same_reading(&[first]);
-        for second in 0..=255 {
-            same_reading(&[first, second]);
-        }
-    }
-    // Longer ones of bytes that mean something.
-    let bytes = [0, 1, 2, 4, 5, 6, 7, 12, 13, 15, 16, 0x20, 0x21, 0x24, 0x25, 0xff];
-    for index in 0..bytes.len().pow(4) {
-        let at = |i: u32| bytes[index / bytes.len().pow(i) % bytes.len()];
-        same_reading(&[at(0), at(1), at(2)]);
-        same_reading(&[at(0), at(1), at(2), at(3)]);
-    }
-}
-
-#[test]
-fn changed_cores() {
-    let mut random = Random::new(5);
-    let mut seen = [0; 9];
-    for expr in core_exprs(6, 6_000) {
-        let bytes = Core::from_expr(&expr).unwrap().to_bytes();
-        for _ in 0..4 {
-            let mut changed = bytes.clone();
-            let at = random.below(changed.len());
-            match random.below(5) {
-                0 => changed.truncate(at),
-                1 => changed.insert(at, random.below(256) as u8),
-                2 => changed[at] ^= 1 << random.below(8),
-                3 => changed.push(random.below(3) as u8),
-                _ => changed[at] = random.below(40) as u8,
-            }
-            seen[same_reading(&changed) as usize] += 1;
-        }
-    }
-    for number in [0, 1, 2, 3, 4, 5, 8] {
-        assert!(seen[number] > 0, "{number} did not occur: {seen:?}");
+        assert_eq!(Core::from_expr(&expr).map_err(|r| (r.number, r.place)), Err((41, 3)));
     }
 }
 
@@ -304,24 +161,4 @@ fn several_lines() {
     assert_eq!(format!("{core:#?}"), "Union(\n    Test(0, true),\n    Star(\n        Dup,\n    ),\n)");
     assert_eq!(format!("{:#?}", core.root()), format!("{core:#?}"));
     assert_eq!(format!("{:?}", core.root().view()), "Union(Test(0, true), Star(Dup))");
-}
-
-/// The library's own cores, large enough for every way through the reader.
-#[test]
-fn cores_of_the_library() {
-    for term in [
-        Expr::let_bit_range(1, 0, 300, Expr::union(Expr::var_test(1, vec![true]), Expr::var_assign(1, vec![true, false, true]))),
-        Expr::bit_range_match(
-            0,
-            40,
-            netkat::Pattern::IpRange { start: netkat::bits(12_345, 40), end: netkat::bits(1 << 39, 40) },
-        ),
-    ] {
-        let bytes = bytes::desugar(&term.to_bytes().unwrap()).unwrap();
-        assert_eq!(same_reading(&bytes), 0);
-        assert_eq!(desugar(&term).unwrap().to_bytes(), bytes);
-        for at in 0..bytes.len() {
-            assert_eq!(Core::from_bytes(&bytes[..at]).map_err(|Refusal { number, .. }| number), Err(1));
-        }
-    }
 }

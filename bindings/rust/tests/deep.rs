@@ -15,21 +15,22 @@ fn on_a_small_stack(work: impl FnOnce() + Send + 'static) {
 }
 
 #[test]
-fn core_of_60_000_levels() {
+fn core_of_65_535_levels() {
     on_a_small_stack(|| {
-        let mut bytes = [1, 15].repeat(59_999); // LtlNext
+        let mut bytes = [1, 15].repeat(65_534); // LtlNext
         bytes.push(0); // Zero
         let core = Core::from_bytes(&bytes).unwrap();
-        assert_eq!(core.len(), 60_000);
-        assert_eq!(core.root().nodes().count(), 60_000);
+        assert_eq!(core.len(), 65_535);
+        assert_eq!(core.root().nodes().count(), 65_535);
         assert_eq!(core.to_bytes(), bytes);
+        assert_eq!(core.num_fields(), Ok(0));
         let copy = core.clone();
         assert!(copy == core);
         drop(core);
-        assert_eq!(format!("{copy:?}"), format!("{}Zero{}", "LtlNext(".repeat(59_999), ")".repeat(59_999)));
+        assert_eq!(format!("{copy:?}"), format!("{}Zero{}", "LtlNext(".repeat(65_534), ")".repeat(65_534)));
         let expr = copy.to_expr();
         drop(copy);
-        assert_eq!(expr.clone().nodes().count(), 60_000);
+        assert_eq!(expr.clone().nodes().count(), 65_535);
         assert_eq!(expr.check().unwrap_err().number, 7);
     });
 }
@@ -50,7 +51,7 @@ fn core_that_the_library_made() {
 #[test]
 fn core_that_leans_left() {
     on_a_small_stack(|| {
-        let leaning = (0..60_000).fold(Expr::one(), |rest, field| Expr::sequence(rest, Expr::assign(field, true)));
+        let leaning = (0..32_767).fold(Expr::one(), |rest, field| Expr::sequence(rest, Expr::assign(field, true)));
         let core = Core::from_expr(&leaning).unwrap();
         assert!(core.clone() == core);
         assert!(core.root() == core.clone().root());

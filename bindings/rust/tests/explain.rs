@@ -3,7 +3,7 @@
 mod common;
 
 use netkat::limits::MAX_LITERAL_BITS;
-use netkat::{bits, bits_of_words, Desugarer, Exp, Expr, Names, Pattern, Refusal};
+use netkat::{bits, bits_of_words, Core, Desugarer, Exp, Expr, Names, Pattern, Refusal};
 
 /// Names with the words of the cases: a is 0, b is 1, v is 2, "two words" is 3.
 fn names() -> Names {
@@ -369,6 +369,28 @@ fn field_count() {
         "field 4,294,967,295 is used here, and a count of fields that includes it is too large (record 2, refusal 25)\n  \
          in: x4294967295 == 1"
     );
+    // Of a core, which may be larger than a policy.
+    let deep = (1..65_535).fold(Expr::assign(u32::MAX, false), |body, _| Expr::star(body));
+    let refusal = Core::from_expr(&deep).unwrap().num_fields().unwrap_err();
+    assert_eq!(
+        refusal.explain(&deep, &names()),
+        "field 4,294,967,295 is used here, and a count of fields that includes it is too large (record 65534, refusal 25)\n  \
+         in: x4294967295 := 0"
+    );
+}
+
+#[test]
+fn no_core() {
+    let policy = Expr::union(Expr::star(Expr::dup()), Expr::let_in(V, Expr::one(), Expr::var(V)));
+    let refusal = Core::from_expr(&policy).unwrap_err();
+    assert_eq!(Core::from_bytes(&policy.to_bytes().unwrap()).unwrap_err(), refusal);
+    assert_eq!(
+        refusal.explain(&policy, &names()),
+        "a core has no Let: desugaring replaces it (record 3, refusal 41)\n  in: let v = 1 in v"
+    );
+    assert!(refusal
+        .explain(&Expr::union_all((0..3).map(|_| Expr::dup())), &names())
+        .contains("it is not the one that was refused"));
 }
 
 /// Whatever the refusal and the policy, there is a text, and it has the number.

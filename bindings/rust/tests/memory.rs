@@ -6,7 +6,7 @@ use std::cell::RefCell;
 use std::thread;
 
 use common::terms;
-use netkat::{bits, bytes, desugar, desugar_to_expr, release_memory, Desugarer, Exp, Expr};
+use netkat::{bits, bytes, desugar, desugar_to_expr, release_memory, Core, Desugarer, Exp, Expr};
 
 /// All ways give the answer of a fresh desugarer with the greatest allowance.
 fn same_answers(term: &Expr, kept: &mut Desugarer) -> bool {
@@ -19,7 +19,7 @@ fn same_answers(term: &Expr, kept: &mut Desugarer) -> bool {
     assert_eq!(kept.desugar_to_expr(term), expr);
     let term = term.to_bytes().unwrap();
     assert_eq!(bytes::desugar(&term), core.as_ref().map(|core| core.to_bytes()).map_err(|refusal| *refusal));
-    core.is_ok()
+    core.map(|core| assert_eq!(Core::from_bytes(&core.to_bytes()), core.num_fields().map(|_| core))).is_ok()
 }
 
 /// A term that makes a large core, or spends the allowance.
@@ -87,6 +87,7 @@ impl Drop for AtTheEnd {
         release_memory();
         assert_eq!(desugar(&Expr::One).unwrap().len(), 1);
         assert_eq!(bytes::desugar(&[1, 1]).unwrap(), [1, 1]);
+        assert_eq!(Core::from_bytes(&[1, 1]).unwrap().len(), 1);
     }
 }
 

@@ -6,15 +6,15 @@ use std::error::Error;
 use netkat::{bits, bytes, compute_subrange, limits, Desugarer, Exp, Expr, FormFault, Pattern, Refusal, RefusalKind};
 
 fn numbers() -> impl Iterator<Item = u32> {
-    (1..=28).chain(31..=38)
+    (1..=28).chain(31..=38).chain(41..=42)
 }
 
 #[test]
 fn every_number_has_a_kind_of_its_own() {
     let kinds: HashSet<RefusalKind> = numbers().map(|number| Refusal { number, place: 0 }.kind()).collect();
-    assert_eq!(kinds.len(), 36);
+    assert_eq!(kinds.len(), 38);
     assert!(!kinds.contains(&RefusalKind::Unknown));
-    for number in [0, 29, 30, 39, u32::MAX] {
+    for number in [0, 29, 30, 39, 40, 43, 71, 72, u32::MAX] {
         assert_eq!(Refusal { number, place: 0 }.kind(), RefusalKind::Unknown);
     }
     assert_eq!(Refusal { number: 37, place: 0 }.kind(), RefusalKind::Replacement(FormFault::TooDeep));
@@ -31,7 +31,7 @@ fn every_number_has_a_sentence_of_its_own() {
             text.split(" (re").next().unwrap().to_owned()
         })
         .collect();
-    assert_eq!(sentences.len(), 36);
+    assert_eq!(sentences.len(), 38);
 }
 
 #[test]

@@ -1,4 +1,4 @@
-//! A small generator of terms. The same seed gives the same terms.
+//! A small generator of terms and cores. The same seed gives the same ones.
 
 use netkat::{Exp, Expr, Pattern};
 
@@ -9,6 +9,17 @@ pub fn terms(seed: u64, count: usize) -> impl Iterator<Item = Exp> {
     std::iter::repeat_with(move || {
         let depth = 1 + random.below(7);
         random.term(depth)
+    })
+    .take(count)
+}
+
+/// Random expressions that are cores.
+#[allow(dead_code)]
+pub fn core_exprs(seed: u64, count: usize) -> impl Iterator<Item = Exp> {
+    let mut random = Random::new(seed);
+    std::iter::repeat_with(move || {
+        let depth = 1 + random.below(9);
+        random.core(depth)
     })
     .take(count)
 }
@@ -113,6 +124,31 @@ impl Random {
                 Expr::let_bit_range(self.name(), start, end, self.term(d))
             }
             _ => self.leaf(),
+        }
+    }
+
+    /// An expression that is a core, of at most `depth` levels.
+    fn core(&mut self, depth: usize) -> Exp {
+        let fields = [0, 1, 7, 255, 256, 0x0102_0304, u32::MAX];
+        let field = fields[self.below(fields.len())];
+        let d = depth - 1;
+        match self.below(if depth > 1 { 22 } else { 10 }) {
+            0 => Expr::zero(),
+            1 => Expr::one(),
+            2 => Expr::top(),
+            3 => Expr::dup(),
+            4 => Expr::end(),
+            5 | 6 => Expr::assign(field, self.flag()),
+            7..=9 => Expr::test(field, self.flag()),
+            10 | 11 => Expr::union(self.core(d), self.core(d)),
+            12 | 13 => Expr::intersect(self.core(d), self.core(d)),
+            14 => Expr::xor(self.core(d), self.core(d)),
+            15 => Expr::difference(self.core(d), self.core(d)),
+            16 | 17 => Expr::sequence(self.core(d), self.core(d)),
+            18 => Expr::ltl_until(self.core(d), self.core(d)),
+            19 => Expr::complement(self.core(d)),
+            20 => Expr::star(self.core(d)),
+            _ => Expr::ltl_next(self.core(d)),
         }
     }
 
