@@ -116,16 +116,7 @@ fn changed_cores() {
         let bytes = Core::from_expr(&expr).unwrap().to_bytes();
         seen[same_reading(&bytes) as usize] += 1;
         for _ in 0..4 {
-            let mut changed = bytes.clone();
-            let at = random.below(changed.len());
-            match random.below(5) {
-                0 => changed.truncate(at),
-                1 => changed.insert(at, random.below(256) as u8),
-                2 => changed[at] ^= 1 << random.below(8),
-                3 => changed.push(random.below(3) as u8),
-                _ => changed[at] = random.below(40) as u8,
-            }
-            seen[same_reading(&changed) as usize] += 1;
+            seen[same_reading(&random.changed(&bytes)) as usize] += 1;
         }
     }
     for number in [0, 1, 2, 3, 4, 5, 8, 25, 41] {

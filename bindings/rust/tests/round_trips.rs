@@ -151,15 +151,7 @@ fn form_of_changed_terms() {
     for term in terms(6, 4_000) {
         let bytes = term.to_bytes().unwrap();
         for _ in 0..5 {
-            let mut changed = bytes.clone();
-            let at = random.below(changed.len());
-            match random.below(4) {
-                0 => changed.truncate(at),
-                1 => changed.insert(at, random.below(256) as u8),
-                2 => changed[at] ^= 1 << random.below(8),
-                _ => changed[at] = random.below(32) as u8,
-            }
-            match same_form(&changed) {
+            match same_form(&random.changed(&bytes)) {
                 Ok(_) => refused[0] += 1,
                 Err(refusal) => refused[refusal.number as usize] += 1,
             }

@@ -5,21 +5,21 @@ use netkat::{Exp, Expr, Pattern};
 /// Random terms within the limits.
 #[allow(dead_code)] // Not every test has a use for it.
 pub fn terms(seed: u64, count: usize) -> impl Iterator<Item = Exp> {
-    let mut random = Random::new(seed);
-    std::iter::repeat_with(move || {
-        let depth = 1 + random.below(7);
-        random.term(depth)
-    })
-    .take(count)
+    exprs(seed, count, 7, Random::term)
 }
 
 /// Random expressions that are cores.
 #[allow(dead_code)]
 pub fn core_exprs(seed: u64, count: usize) -> impl Iterator<Item = Exp> {
+    exprs(seed, count, 9, Random::core)
+}
+
+/// What is made of at most so many levels.
+fn exprs(seed: u64, count: usize, levels: usize, make: fn(&mut Random, usize) -> Exp) -> impl Iterator<Item = Exp> {
     let mut random = Random::new(seed);
     std::iter::repeat_with(move || {
-        let depth = 1 + random.below(9);
-        random.core(depth)
+        let depth = 1 + random.below(levels);
+        make(&mut random, depth)
     })
     .take(count)
 }
@@ -51,6 +51,21 @@ impl Random {
 
     pub fn bits(&mut self, length: usize) -> Vec<bool> {
         (0..length).map(|_| self.flag()).collect()
+    }
+
+    /// The bytes with a change: cut off, one more, a bit flipped, or one byte another.
+    #[allow(dead_code)]
+    pub fn changed(&mut self, bytes: &[u8]) -> Vec<u8> {
+        let mut changed = bytes.to_vec();
+        let at = self.below(changed.len());
+        match self.below(5) {
+            0 => changed.truncate(at),
+            1 => changed.insert(at, self.below(256) as u8),
+            2 => changed[at] ^= 1 << self.below(8),
+            3 => changed.push(self.below(3) as u8),
+            _ => changed[at] = self.below(40) as u8,
+        }
+        changed
     }
 
     /// The length of a literal: mostly short, now and then up to the limit.
