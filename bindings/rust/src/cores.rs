@@ -120,8 +120,8 @@ impl Core {
         }
     }
 
-    /// The core of the bytes, which need not be trusted: the library reads them, and judges their form. What [`desugar()`](crate::desugar())
-    /// makes and [`Core::to_bytes`] writes comes back as it was.
+    /// The core of the bytes, which may come from anywhere: the library reads them, and judges their form. What
+    /// [`desugar()`](crate::desugar()) makes and [`Core::to_bytes`] writes comes back as it was, or is refused by 25.
     ///
     /// ```
     /// use netkat::{Core, View};

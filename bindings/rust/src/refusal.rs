@@ -218,9 +218,7 @@ impl RefusalKind {
             }
             Self::SubrangeOutside => "the part that is asked for does not lie inside the alias's range",
             Self::TermKind => "a core has no expression of this kind: desugaring replaces it",
-            Self::CoreTooLarge => {
-                return Cow::from(format!("the core has more than {} nodes", grouped(MAX_CORE_RECORDS as u64)))
-            }
+            Self::CoreTooLarge => return Cow::from(format!("the core has more than {} nodes", grouped(MAX_CORE_RECORDS as u64))),
             Self::Unknown => "the library gave a refusal that is not known here",
         };
         Cow::from(sentence)
