@@ -40,7 +40,7 @@ abbrev pub Cores : ℕ → Type 0
 Cores zero = Unit {0}
 Cores (suc n) = Core × Cores n
 
--- where a node and then n cores are due, so many are due behind the node's record; and the node is put over the first of them
+-- behind the record of a node, before n other cores, so many are due: its operands and those; and the node is put over its operands
 abbrev pub dueBehind : CoreNode → ℕ → ℕ
 dueBehind (atom a) n = n
 dueBehind (unary o) n = suc n
@@ -51,17 +51,17 @@ putOver (atom a) n cs = (leaf a, cs)
 putOver (unary o) n cs = (one o (cs .0), cs .1)
 putOver (binary o) n cs = (two o (cs .0) (cs .1 .0), cs .1 .1)
 
--- what reads so many cores, from a record's index on
+-- what reads the cores that are due, the first from the record `at` on, and the bytes that are left
 abbrev pub ReadsCores : Type 0
-ReadsCores = (due : ℕ) → ℕ → List ℕ → Answer (Cores due × List ℕ)
+ReadsCores = (due at : ℕ) → List ℕ → Answer (Cores due × List ℕ)
 
--- "placed as 1 to 7 are"
-abbrev pub coreAt : ReadsCores → (due : ℕ) → ℕ → Read Record → Answer (Cores (suc due) × List ℕ)
+-- "placed as 1 to 7 are": behind a record that was read, its operands and the other cores are due
+abbrev pub coreAt : ReadsCores → (due at : ℕ) → Read Record → Answer (Cores (suc due) × List ℕ)
 coreAt reads due at (got h bs) = mapAnswer (λ r. (putOver (coreNode h) due (r .0), r .1)) (reads (dueBehind (coreNode h) due) (at + 1) bs)
 coreAt reads due at (fault r) = refuse r at
 
--- "42, more than 65,535 records, where 6 stood": so many cores as are due, of which so many records may still come
-abbrev pub readCores : ℕ → ReadsCores
+-- "42, more than 65,535 records, where 6 stood": before a record, if one is due and none is left of those that there may be
+abbrev pub readCores : (left : ℕ) → ReadsCores
 readCores zero zero at bs = ok (tt, bs)
 readCores zero (suc due) at bs = refuse 42 at
 readCores (suc left) zero at bs = ok (tt, bs)
