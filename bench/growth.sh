@@ -1,6 +1,6 @@
 #!/bin/sh
-# Instructions of one call of each operation on terms of growing size, then of Check on range patterns of growing width, then of Cost and Desugar on
-# one match, counted by valgrind's callgrind: they repeat.
+# Instructions of one call of each operation on terms of growing size, and of reading their cores back, then of Check on range patterns of growing
+# width, then of Cost and Desugar on one match, counted by valgrind's callgrind: they repeat.
 # Needs what bench/run.sh needs, and valgrind.
 here=$(dirname "$0")/../oracle
 . "$here/prepare.sh"
@@ -15,20 +15,27 @@ instructions() {
         sed -n 's/.*Collected : *\([0-9]*\).*/\1/p'
 }
 
-# each FUNCTION COUNT FILE: the same, for each of COUNT bytes or nodes
-each() {
-    instructions "$1" "$3" | awk -v count="$2" '{ printf "%.1f", $1 / count }'
+# per NUMBER COUNT: how many for each, with one decimal
+per() {
+    awk -v number="$1" -v count="$2" 'BEGIN { printf "%.1f", number / count }'
 }
 
-echo "| policy | term bytes | core bytes | drawn | desugar | for each drawn node | check, for each term byte | test fragment | field count | substitute |"
-echo "|---|---|---|---|---|---|---|---|---|---|"
+# each FUNCTION COUNT FILE: the instructions of one call, for each of COUNT bytes or nodes
+each() {
+    per "$(instructions "$1" "$3")" "$2"
+}
+
+echo "| policy | term bytes | core bytes | drawn | desugar | for each drawn node | check, for each term byte | test fragment | field count | substitute |" \
+    "read, for each record | read / desugar |"
+echo "|---|---|---|---|---|---|---|---|---|---|---|---|"
 for family in access_list first_match tenants wide_test lets complement_lets union_lets; do
     for file in $(ls "$terms" | grep "^$family-" | sort -t- -k2 -n); do
         term=$terms/$file
         set -- $("$oracle" once "$term")
-        echo "| ${file%.bin} | $1 | $2 | $3 | $(instructions netkat_desugar "$term") | $(each netkat_desugar "$3" "$term") |" \
+        desugar=$(instructions netkat_desugar "$term") read=$(instructions netkat_read_core "$term")
+        echo "| ${file%.bin} | $1 | $2 | $3 | $desugar | $(per "$desugar" "$3") |" \
             "$(each netkat_check "$1" "$term") | $(each netkat_is_test_fragment "$1" "$term") | $(each netkat_num_fields "$1" "$term") |" \
-            "$(each netkat_substitute "$1" "$term") |"
+            "$(each netkat_substitute "$1" "$term") | $(per "$read" "$4") | $(per "$read" "$desugar") |"
     done
 done
 

@@ -64,6 +64,60 @@ netkat_answer netkat_cost(uint32_t start, uint32_t end, uint32_t pattern, uint32
     return answer;
 }
 
+#elif defined(READ_KIND_16) || defined(READ_16_AS_2) || defined(READ_PLACES_FROM_1) || defined(READ_10_BEFORE_25) || \
+    defined(READ_WRITES_WHILE_JUDGED) || defined(READ_FIELDS_ONE_LESS) || defined(READ_REST_TOUCHED) || defined(READ_BEHIND_LIST) || \
+    defined(READ_SHORT_LIST) || defined(READ_ONE_MORE_RECORD) || defined(READ_DEPTH_OF_TERMS) || defined(READ_BYTE_BEHIND) || \
+    defined(READ_LAST_VALUE) || defined(READ_CORE_CHANGED)
+#include <stdlib.h>
+#include <string.h>
+netkat_answer true_read_core(const uint8_t *core, size_t core_len, uint32_t *records, size_t records_len);
+netkat_answer netkat_read_core(const uint8_t *core, size_t core_len, uint32_t *records, size_t records_len) {
+    netkat_answer a = true_read_core(core, core_len, records, records_len);
+#if defined(READ_KIND_16)
+    /* the root's kind 16 is taken for another with one operand */
+    if (a.number == 41 && a.place == 0 && core[1] == 16) {
+        uint8_t *copy = malloc(core_len);
+        memcpy(copy, core, core_len);
+        copy[1] = 13;
+        a = true_read_core(copy, core_len, records, records_len);
+        if (a.number == 0) records[0] = 16;
+        free(copy);
+    }
+#elif defined(READ_16_AS_2)
+    if (a.number == 41) a.number = 2;
+#elif defined(READ_PLACES_FROM_1)
+    if (a.number != 0 && a.number != 10) a.place++;
+#elif defined(READ_10_BEFORE_25)
+    if (a.number == 25 && records_len < 3 * (size_t)a.place + 3) a = (netkat_answer){10, 0, 0, 0};
+#elif defined(READ_WRITES_WHILE_JUDGED)
+    if (a.number != 0 && a.place > 0 && records_len > 0) records[0] = core[1];
+#elif defined(READ_FIELDS_ONE_LESS)
+    if (a.second > 300) a.second--;
+#elif defined(READ_REST_TOUCHED)
+    if (a.number == 0 && records_len > 3 * (size_t)a.first) records[3 * (size_t)a.first] = 0;
+#elif defined(READ_BEHIND_LIST)
+    if (a.number == 0) records[records_len] = 0; /* the comparison has memory behind what it lends */
+#elif defined(READ_SHORT_LIST)
+    if (a.number == 10) {
+        uint32_t *list = malloc((records_len + 1) * sizeof *list);
+        a = true_read_core(core, core_len, list, records_len + 1);
+        if (a.number == 0) memcpy(records, list, records_len * sizeof *list);
+        free(list);
+    }
+#elif defined(READ_ONE_MORE_RECORD)
+    if (a.number == 42) a.place++;
+#elif defined(READ_DEPTH_OF_TERMS)
+    if (a.number == 0 && a.first > 60000 && core[0] == 1 && core[1] > 12) a = (netkat_answer){7, 256, 0, 0};
+#elif defined(READ_BYTE_BEHIND)
+    if (a.number == 1) a = true_read_core(core, core_len + 1, records, records_len);
+#elif defined(READ_LAST_VALUE)
+    if (a.number == 0 && a.first > 20) records[3 * (size_t)a.first - 1] ^= 1;
+#elif defined(READ_CORE_CHANGED)
+    if (a.number == 8) ((uint8_t *)core)[core_len - 1] = 0;
+#endif
+    return a;
+}
+
 #else
 netkat_answer true_desugar(const uint8_t *term, size_t term_len, uint32_t allowance, uint32_t *work, size_t work_len, uint8_t *out,
                            size_t out_len);

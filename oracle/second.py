@@ -1,10 +1,11 @@
 #!/usr/bin/env python3
-"""second.py FILE...: a second reading of document 01, which answers the lines of vector files (`-` is standard input).
+"""second.py FILE...: a second reading of document 01 and of the changes, which answers the lines of vector files (`-` is standard input).
 
 It is built differently from the Rust model: form is a loop with a stack of children still to come, a core is a flat list of
 records in prefix order, and negation is one forward pass with a stack of modes after a backward pass for sizes.
 """
 import sys
+from itertools import groupby
 
 ARITY = [0] * 7 + [2] * 6 + [1] * 4 + [3, 2, 1] + [0] * 7
 BITS = {5: (2, 5), 6: (2, 5), 18: (1,), 19: (1, 2, 3), 20: (1,), 21: (1, 6), 22: (1, 6), 23: (2, 3, 6), 24: (2, 3, 6),
@@ -25,13 +26,76 @@ class Rec:
     __slots__ = ("kind", "name", "start", "end", "pat", "num", "a", "b", "size")
 
 
-def form(data, base=0):
-    """The records in written order, each with its subtree's size in records."""
+class Reading:
+    """Bytes that are read from the front. The refusal of what lacks or is wrong is at the record that is being read."""
+
+    def __init__(self, data, base):
+        self.data, self.base, self.at, self.place = data, base, 0, 0
+
+    def no(self, number):
+        no(self.base + number, self.place)
+
+    def take(self, n):
+        if len(self.data) - self.at < n:
+            self.no(1)
+        self.at += n
+        return self.data[self.at - n:self.at]
+
+    def number(self, width):
+        return int.from_bytes(self.take(width), "little") or self.no(4)
+
+    def literal(self):
+        """Length and value."""
+        length = self.number(1)
+        if length > MAX_LITERAL:
+            self.no(5)
+        v = int.from_bytes(self.take(-(-length // 8)), "little")
+        if v >> length:
+            self.no(4)
+        return length, v
+
+
+def record(reading, core):
+    """The record at the front."""
+    m = reading.take(1)[0]
+    r = Rec()
+    r.kind = r.name = r.start = r.end = r.pat = r.num = 0
+    r.a = r.b = (0, 0)  # length and value
+    if m & 1:
+        r.kind = reading.number(1)
+        if r.kind > 26:
+            reading.no(2)
+        if core and r.kind > 15:
+            reading.no(41)
+    have = BITS.get(r.kind, ())
+    if any(m >> bit & 1 and bit not in have for bit in range(1, 8)):
+        reading.no(3)
+    for bit, attr, width in ((1, "name", 2), (2, "start", 4), (3, "end", 4), (4, "pat", 1)):
+        if m >> bit & 1:
+            setattr(r, attr, reading.number(width))
+    if r.pat > 3:
+        reading.no(5)
+    if r.kind in (25, 26):
+        ok = [(), (5,), (7,), (7,)][r.pat]
+        if any(m >> bit & 1 and bit not in ok for bit in (5, 7)):
+            reading.no(3)
+    if m >> 5 & 1:
+        r.num = reading.number(1)
+        if r.kind in (5, 6) and r.num != 1:
+            reading.no(5)
+    for bit, attr in ((6, "a"), (7, "b")):
+        if m >> bit & 1:
+            setattr(r, attr, reading.literal())
+    return r
+
+
+def form(data, base=0, core=False):
+    """The records in written order, each with its subtree's size in records. A core has terms' form, with two limits of its own."""
+    most, too_many = (65535, 42) if core else (4096, 6)
     recs = []
-    at = 0
     open_ = [1]  # children still to come, per level
-    n = len(data)
     parents = []
+    reading = Reading(data, base)
     while open_:
         if open_[-1] == 0:
             open_.pop()
@@ -40,71 +104,17 @@ def form(data, base=0):
                 recs[i].size = len(recs) - i
             continue
         open_[-1] -= 1
-        place = len(recs)
-        depth = len(open_)
-        if place + 1 > 4096:
-            no(base + 6, place)
-        if depth > 256:
-            no(base + 7, place)
-        if at == n:
-            no(base + 1, place)
-
-        def need(k):
-            nonlocal at
-            if n - at < k:
-                no(base + 1, place)
-            at += k
-            return data[at - k:at]
-
-        m = need(1)[0]
-        r = Rec()
-        r.kind = r.name = r.start = r.end = r.pat = r.num = 0
-        r.a = r.b = (0, 0)  # length and value
-        if m & 1:
-            r.kind = need(1)[0]
-            if r.kind == 0:
-                no(base + 4, place)
-            if r.kind > 26:
-                no(base + 2, place)
-        have = BITS.get(r.kind, ())
-        for bit in range(1, 8):
-            if m >> bit & 1 and bit not in have:
-                no(base + 3, place)
-        for bit, attr, width in ((1, "name", 2), (2, "start", 4), (3, "end", 4), (4, "pat", 1)):
-            if m >> bit & 1:
-                v = int.from_bytes(need(width), "little")
-                if v == 0:
-                    no(base + 4, place)
-                if bit == 4 and v > 3:
-                    no(base + 5, place)
-                setattr(r, attr, v)
-        if r.kind in (25, 26):
-            ok = [(), (5,), (7,), (7,)][r.pat]
-            for bit in (5, 7):
-                if m >> bit & 1 and bit not in ok:
-                    no(base + 3, place)
-        if m >> 5 & 1:
-            r.num = need(1)[0]
-            if r.num == 0:
-                no(base + 4, place)
-            if r.kind in (5, 6) and r.num != 1:
-                no(base + 5, place)
-        for bit, attr in ((6, "a"), (7, "b")):
-            if m >> bit & 1:
-                length = need(1)[0]
-                if length == 0:
-                    no(base + 4, place)
-                if length > MAX_LITERAL:
-                    no(base + 5, place)
-                v = int.from_bytes(need(-(-length // 8)), "little")
-                if v >> length:
-                    no(base + 4, place)
-                setattr(r, attr, (length, v))
-        recs.append(r)
-        parents.append(place)
-        open_.append(ARITY[r.kind])
-    if at < n:
-        no(base + 8, len(recs))
+        reading.place = len(recs)
+        if len(recs) == most:
+            reading.no(too_many)
+        if len(open_) > 256 and not core:
+            reading.no(7)
+        parents.append(len(recs))
+        recs.append(record(reading, core))
+        open_.append(ARITY[recs[-1].kind])
+    reading.place = len(recs)
+    if reading.at < len(data):
+        reading.no(8)
     return recs
 
 
@@ -420,6 +430,16 @@ def fields(recs):
     return top
 
 
+def read(core, room):
+    """Document 02, change 1: the form and the field count of a term, then the list."""
+    recs = form(core, core=True)
+    count = fields(recs)
+    if room < 3 * len(recs):
+        no(10, 0)
+    runs = ((key, len(list(run))) for key, run in groupby(f"{r.kind}:{r.start}:{r.num}" for r in recs))
+    return f"ok {len(recs)} {count} " + ",".join(key if times == 1 else f"{key}*{times}" for key, times in runs)
+
+
 def subrange(a, b, s, e):
     if s > e or a + e > b or a + s > 0xffffffff or a + e > 0xffffffff:
         no(28, 0)
@@ -473,7 +493,8 @@ def program(t):
 
 
 def unhex(s):
-    return b"" if s == "-" else bytes.fromhex(s)
+    groups = [] if s == "-" else [group.partition("*") for group in s.split(".")]
+    return b"".join(bytes.fromhex(digits) * int(times or 1) for digits, _, times in groups)
 
 
 def answer(q):
@@ -495,6 +516,8 @@ def answer(q):
             return compare(int(w[1]), int(w[2]), unhex(w[3]), int(w[4]), unhex(w[5]))
         if w[0] == "cost":
             return cost(*map(int, w[1:6]), unhex(w[6]), int(w[7]), unhex(w[8]))
+        if w[0] == "read":
+            return read(unhex(w[1]), int(w[2]))
         return program(unhex(w[0]))
     except No as e:
         return f"no {e.args[0]} {e.args[1]}"

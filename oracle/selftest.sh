@@ -1,6 +1,6 @@
 #!/bin/sh
-# Does the comparison see a fault? Puts one fault at a time into a copy of the original, then of the port, then of the model, at last of the
-# port's costs, and wants a difference reported.
+# Does the comparison see a fault? Puts one fault at a time into a copy of the original, then of the port, then of the model, then of the
+# port's costs, at last of what reads cores back, and wants a difference reported.
 # Needs ORACLE_SEEDS (see run.sh), target/staticlib/libnetkat.a, cc, ar and objcopy. ONLY=NAME tries one fault.
 if [ ! -d "${ORACLE_SEEDS:-}" ]; then
     echo "selftest.sh: set ORACLE_SEEDS to the folder that holds the original's expr.rs and desugar.rs" >&2
@@ -68,12 +68,12 @@ port() {
     NETKAT_LIB_DIR=$library fault "$1" PORT
 }
 
-# model NAME PATTERN OLD NEW: a copy of this folder in which the first OLD of model.rs becomes NEW
+# model NAME PATTERN OLD NEW [FILE]: a copy of this folder in which the first OLD of model.rs, or of another file, becomes NEW
 model() {
     [ -z "$ONLY" ] || [ "$ONLY" = "$1" ] || return
     rm -rf "$copy/oracle" && mkdir "$copy/oracle" && cp -R Cargo.toml Cargo.lock build.rs seeds.rs src "$copy/oracle" &&
         ln -sfn "$(cd ../bindings && pwd)" "$copy/bindings" || exit 2
-    replace "$copy/oracle/src/model.rs" "$3" "$4" || { miss "$1: not in the model"; return; }
+    replace "$copy/oracle/src/${5:-model.rs}" "$3" "$4" || { miss "$1: not in the model"; return; }
     NETKAT_LIB_DIR=$(cd ../target/staticlib && pwd) fault "$1" "$2" "$copy/oracle"
 }
 
@@ -179,6 +179,32 @@ port COST_HIGH_HALF_LOST cost
 port COST_PREFIX_AS_A_BYTE cost
 port COST_BYTE_BEHIND cost
 port COST_17_AS_18 cost
+
+# cores that the port made, read back
+asked="compare 5 ${COUNT:-30000} 40 1"
+port READ_LAST_VALUE read_core
+port READ_FIELDS_ONE_LESS read_core
+asked="cores 5 ${COUNT:-30000}"
+port READ_KIND_16 read_core
+port READ_16_AS_2 read_core
+port READ_PLACES_FROM_1 read_core
+port READ_10_BEFORE_25 read_core
+port READ_WRITES_WHILE_JUDGED read_core
+port READ_REST_TOUCHED read_core
+port READ_BEHIND_LIST read_core
+port READ_SHORT_LIST read_core
+port READ_ONE_MORE_RECORD read_core
+port READ_DEPTH_OF_TERMS read_core
+port READ_BYTE_BEHIND read_core
+port READ_CORE_CHANGED read_core
+model "cores of 65,536 records" PORT \
+    'if records.len() == MAX_CORE {' \
+    'if records.len() > MAX_CORE {' \
+    cores.rs
+model "25 before what is left over" PORT \
+    'let next = record(&mut rest).map_err(|number| (number, place))?;' \
+    'let next = record(&mut rest).map_err(|number| (number, place))?; if next[1] == u32::MAX { return Err((25, place)); }' \
+    cores.rs
 
 echo "$seen seen, $missed missed"
 [ $missed = 0 ]

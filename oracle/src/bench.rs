@@ -21,13 +21,20 @@ const ORIGINAL: usize = 1; // bytes to tree, desugar, tree to bytes, trees freed
 const BARE: usize = 2; // the original's desugar on a tree already built, its result freed outside the time
 const CHECK: usize = 3; // netkat_check
 const COPY: usize = 4; // memcpy of 12 bytes for each core node
-const TIMED: usize = 5;
+const READ: usize = 5; // netkat_read_core on the core, the list reused
+const DECODE: usize = 6; // the core's bytes to the original's tree, which is freed outside the time
+const TIMED: usize = 7;
+
+/// What the first table has.
+const WRITING: [usize; 5] = [PORT, ORIGINAL, BARE, CHECK, COPY];
+/// What the second table has.
+const READING: [usize; 3] = [READ, PORT, DECODE];
 
 struct Policy {
     name: String,
     term: Vec<u8>,
     tree: Box<Expr>,
-    core_len: usize,
+    core: Vec<u8>,
     nodes: u64,
     drawn: u64,
 }
@@ -38,6 +45,7 @@ struct Buffers {
     original_out: Vec<u8>,
     records: Vec<u8>,
     copy: Vec<u8>,
+    list: Vec<u32>,
 }
 
 pub fn load(folder: &str) -> Vec<(String, Vec<u8>)> {
@@ -49,7 +57,7 @@ pub fn load(folder: &str) -> Vec<(String, Vec<u8>)> {
     all
 }
 
-/// The policy with its figures; both sides must give the same core.
+/// The policy with its figures; both sides must give the same core, and it must read back.
 fn prepare(name: String, term: Vec<u8>, b: &mut Buffers) -> Policy {
     let (node, _) = decode(&term).unwrap_or_else(|e| panic!("{name}: no good form, {e:?}"));
     let core = desugar_walk(&node, &mut Env::new(), &mut Meter::new(ALLOWANCE)).unwrap_or_else(|e| panic!("{name}: refused, {e:?}"));
@@ -57,7 +65,9 @@ fn prepare(name: String, term: Vec<u8>, b: &mut Buffers) -> Policy {
     by_original(&term, &mut b.original_out);
     assert!(b.out[..len as usize] == b.original_out[..], "{name}: the cores differ");
     let tree = original::read(&term).unwrap();
-    Policy { name, term, tree, core_len: len as usize, nodes: core.size, drawn: drawn as u64 }
+    let (count, _) = port::read_core_into(&b.original_out, &mut b.list).unwrap_or_else(|e| panic!("{name}: not read back, {e:?}"));
+    assert!(count as u64 == core.size, "{name}: another number of records");
+    Policy { name, term, tree, core: b.original_out.clone(), nodes: core.size, drawn: drawn as u64 }
 }
 
 fn by_original(term: &[u8], out: &mut Vec<u8>) {
@@ -83,6 +93,8 @@ fn measure(p: &Policy, what: usize, calls: usize, b: &mut Buffers) -> f64 {
         ORIGINAL => microseconds(calls, || by_original(term, &mut b.original_out)),
         BARE => microseconds(calls, || desugar(black_box(&p.tree)).unwrap()),
         CHECK => microseconds(calls, || port::check(term).unwrap()),
+        READ => microseconds(calls, || port::read_core_into(black_box(&p.core), &mut b.list).unwrap()),
+        DECODE => microseconds(calls, || original::read(black_box(&p.core)).unwrap()),
         _ => {
             let len = 12 * p.nodes as usize;
             microseconds(calls, || b.copy[..len].copy_from_slice(black_box(&b.records[..len])))
@@ -121,39 +133,55 @@ fn beside(p: &Policy, other: &Policy, what: usize, b: &mut Buffers) -> String {
     spread(ratios)
 }
 
-/// Rounds of all that is timed; every other round goes in the opposite order.
-fn rounds(p: &Policy, b: &mut Buffers) -> Vec<[f64; TIMED]> {
-    let mut calls = [0; TIMED];
-    for what in 0..TIMED {
-        calls[what] = calls_of(p, what, b);
-    }
-    let mut all = Vec::new();
-    for round in 0..ROUNDS {
-        let mut times = [0.0; TIMED];
-        for i in 0..TIMED {
-            let what = if round % 2 == 0 { i } else { TIMED - 1 - i };
-            times[what] = measure(p, what, calls[what], b);
+/// The microseconds of some of what is timed, by index, round by round.
+struct Rounds(Vec<[f64; TIMED]>);
+
+impl Rounds {
+    /// Every other round goes in the opposite order.
+    fn of(p: &Policy, timed: &[usize], b: &mut Buffers) -> Rounds {
+        let mut order: Vec<(usize, usize)> = timed.iter().map(|&what| (what, calls_of(p, what, b))).collect();
+        let mut all = Vec::new();
+        for _ in 0..ROUNDS {
+            let mut times = [0.0; TIMED];
+            for &(what, calls) in &order {
+                times[what] = measure(p, what, calls, b);
+            }
+            all.push(times);
+            order.reverse();
         }
-        all.push(times);
+        Rounds(all)
     }
-    all
+
+    /// The median.
+    fn time(&self, what: usize) -> String {
+        let median = quartiles(self.0.iter().map(|t| t[what]).collect())[1];
+        if median < 10.0 { format!("{median:.2}") } else { format!("{median:.0}") }
+    }
+
+    fn ratio(&self, what: usize, over: usize) -> String {
+        spread(self.0.iter().map(|t| t[what] / t[over]).collect())
+    }
 }
 
-/// The policy's line of the table.
-fn row(p: &Policy, b: &mut Buffers) {
-    let all = rounds(p, b);
-    let time = |what: usize| {
-        let median = quartiles(all.iter().map(|t| t[what]).collect())[1];
-        if median < 10.0 { format!("{median:.2}") } else { format!("{median:.0}") }
-    };
-    let ratio = |what: usize, over: usize| spread(all.iter().map(|t| t[what] / t[over]).collect());
+/// The policy's line of the first table.
+fn writing_row(p: &Policy, b: &mut Buffers) {
+    let r = Rounds::of(p, &WRITING, b);
     let large = p.nodes >= MANY_NODES;
-    let copy = if large { time(COPY) } else { "-".into() };
-    let copies = if large { ratio(PORT, COPY) } else { "-".into() };
+    let copy = if large { r.time(COPY) } else { "-".into() };
+    let copies = if large { r.ratio(PORT, COPY) } else { "-".into() };
     println!(
         "| {} | {} | {} | {} | {} | {} | {} | {} | {} | {copy} | {} | {} | {copies} | {} |",
-        p.name, p.term.len(), p.core_len, p.nodes, p.drawn, time(PORT), time(ORIGINAL), time(BARE), time(CHECK),
-        ratio(PORT, ORIGINAL), ratio(PORT, BARE), ratio(CHECK, PORT)
+        p.name, p.term.len(), p.core.len(), p.nodes, p.drawn, r.time(PORT), r.time(ORIGINAL), r.time(BARE), r.time(CHECK),
+        r.ratio(PORT, ORIGINAL), r.ratio(PORT, BARE), r.ratio(CHECK, PORT)
+    );
+}
+
+/// The policy's line of the second table.
+fn reading_row(p: &Policy, b: &mut Buffers) {
+    let r = Rounds::of(p, &READING, b);
+    println!(
+        "| {} | {} | {} | {} | {} | {} | {} | {} |",
+        p.name, p.core.len(), p.nodes, r.time(READ), r.time(PORT), r.time(DECODE), r.ratio(READ, PORT), r.ratio(READ, DECODE)
     );
 }
 
@@ -164,6 +192,7 @@ pub fn run(folder: &str) -> bool {
         original_out: Vec::with_capacity(LONGEST_CORE),
         records: vec![1; 12 * ALLOWANCE as usize],
         copy: vec![0; 12 * ALLOWANCE as usize],
+        list: vec![0; 3 * ALLOWANCE as usize],
     };
     println!("Microseconds, medians of {ROUNDS} rounds; ratios of one round, median (lower quartile to upper quartile).");
     println!("original: bytes to tree, desugar, tree to bytes. bare: its desugar on a built tree. copy: 12 bytes for each core node.\n");
@@ -172,9 +201,12 @@ pub fn run(folder: &str) -> bool {
          port / copy | check / port |"
     );
     println!("|{}", "---|".repeat(14));
-    for (name, term) in load(folder) {
-        row(&prepare(name, term, &mut b), &mut b);
-    }
+    let policies: Vec<Policy> = load(folder).into_iter().map(|(name, term)| prepare(name, term, &mut b)).collect();
+    policies.iter().for_each(|p| writing_row(p, &mut b));
+    println!("\nread: netkat_read_core on the core. decoder: the core's bytes to the original's tree, not freed in the time.\n");
+    println!("| policy | core bytes | records | read | port | decoder | read / port | read / decoder |");
+    println!("|{}", "---|".repeat(8));
+    policies.iter().for_each(|p| reading_row(p, &mut b));
     let [long, two, words] = policies::label_stack_policies().map(|(name, term)| prepare(name, term, &mut b));
     println!();
     for other in [two, words] {
@@ -193,14 +225,19 @@ pub fn terms(folder: &str) -> bool {
     true
 }
 
-/// One call of each operation of the port, for a tool that counts instructions: prints the term's bytes, the core's bytes and the drawn
-/// total. Substitute replaces a variable that no term here has.
+/// One call of each operation of the port, for a tool that counts instructions: prints the term's bytes, the core's bytes, the drawn total and
+/// the core's records. Substitute replaces a variable that no term here has.
 pub fn once(path: &str) -> bool {
     let term = std::fs::read(path).unwrap_or_else(|e| panic!("{path}: {e}"));
     let mut work = vec![0; work_needed(ALLOWANCE) as usize];
     let mut out = vec![0; LONGEST_CORE];
-    match port::desugar_into(&term, ALLOWANCE, &mut work, &mut out) {
-        Ok((length, drawn)) => println!("{} {length} {drawn}", term.len()),
+    let mut list = vec![0; 3 * ALLOWANCE as usize];
+    let made = port::desugar_into(&term, ALLOWANCE, &mut work, &mut out);
+    let figures = made.and_then(|(length, drawn)| {
+        port::read_core_into(&out[..length as usize], &mut list).map(|(count, _)| format!("{length} {drawn} {count}"))
+    });
+    match figures {
+        Ok(figures) => println!("{} {figures}", term.len()),
         Err((number, place)) => println!("{path}: refused by {number} at {place}"),
     }
     let root = decode(&term).expect("a term").0;

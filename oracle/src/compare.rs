@@ -2,7 +2,7 @@
 use crate::gen::{self, node, Rng};
 use crate::model::{self, *};
 use crate::vectors::hex;
-use crate::{original, port};
+use crate::{cores, original, port};
 use std::collections::BTreeMap;
 use std::fmt::Debug;
 use std::panic::{catch_unwind, AssertUnwindSafe};
@@ -26,6 +26,13 @@ pub struct Stats {
     records: [u64; 27],
     long_literals: LongLiterals,
     differences: BTreeMap<String, (u64, String)>,
+}
+
+/// An allowance and a buffer length that suit a term, and its core without limit, if it has one that is not too large.
+struct Suited {
+    allowance: u64,
+    out: u64,
+    core: Option<Core>,
 }
 
 /// Inputs with a literal of 129 to 192 bits.
@@ -131,14 +138,14 @@ impl Stats {
     /// One input through everything.
     pub fn case(&mut self, bytes: &[u8], r: &mut Rng) {
         self.inputs += 1;
-        let (allowance, out) = match decode(bytes) {
+        let suited = match decode(bytes) {
             Ok((tree, records)) => self.good_form(bytes, &tree, records, r),
             Err(refusal) => {
                 self.bad_form(bytes, refusal);
-                (1 + r.below(65535), 300)
+                Suited { allowance: 1 + r.below(65535), out: 300, core: None }
             }
         };
-        let compared = catch_unwind(AssertUnwindSafe(|| self.port(bytes, r, allowance, out)));
+        let compared = catch_unwind(AssertUnwindSafe(|| self.port(bytes, r, suited)));
         if compared.is_err() {
             self.differs("PORT breaks a promise of the header, see the panic's message", 1, hex(bytes));
         }
@@ -157,8 +164,8 @@ impl Stats {
         self.expect(alike, "model: form refusals of the operations", || hex(bytes));
     }
 
-    /// The model in itself and the original beside it. Gives an allowance and a buffer length that suit the term.
-    fn good_form(&mut self, bytes: &[u8], tree: &Node, records: u32, r: &mut Rng) -> (u64, u64) {
+    /// The model in itself and the original beside it. Gives what suits the term.
+    fn good_form(&mut self, bytes: &[u8], tree: &Node, records: u32, r: &mut Rng) -> Suited {
         let input = hex(bytes);
         self.count("form good");
         count_kinds(tree, &mut self.records);
@@ -223,7 +230,7 @@ impl Stats {
             },
             Err(_) => r.below(200),
         };
-        (allowance, out)
+        Suited { allowance, out, core: core.ok() }
     }
 
     fn original_desugar(&mut self, input: &str, tree: &Node, core: &Res<Core>) {
@@ -313,8 +320,9 @@ impl Stats {
         self.same("model: substitute", &input, model::substitute(&term, name, &with, ANY_LENGTH), Ok(bytes));
     }
 
-    /// The six functions of the port that document 01 asks for.
-    fn port(&mut self, bytes: &[u8], r: &mut Rng, allowance: u64, out: u64) {
+    /// The six functions of the port that document 01 asks for, and the one that reads cores: the input as a core, and the core that the port
+    /// made.
+    fn port(&mut self, bytes: &[u8], r: &mut Rng, Suited { allowance, out, core }: Suited) {
         self.count("port compared");
         let input = hex(bytes);
         let allowance = if r.below(400) == 0 { *r.pick(&[0u64, 65536, 1 << 20, u32::MAX as u64]) } else { allowance };
@@ -327,7 +335,12 @@ impl Stats {
         });
         self.long_literals.count(bytes, answer.as_ref().err().map_or(0, |e| e.0));
         let lent = format!("{input} allowance {allowance} work {work} out {out}");
-        self.same("PORT desugar", &lent, answer, port::desugar(bytes, allowance, work, out));
+        let made = port::desugar(bytes, allowance, work, out);
+        if let (Ok(made), Some(tree)) = (&made, &core) {
+            cores::beside_desugar(self, &made.core, tree);
+        }
+        self.same("PORT desugar", &lent, answer, made);
+        cores::beside_port(self, bytes, bytes.len() as u64);
         self.same("PORT check", &input, model::check(bytes), port::check(bytes));
         self.same("PORT is_test_fragment", &input, model::fragment(bytes), port::fragment(bytes));
         self.same("PORT num_fields", &input, model::fields(bytes), port::fields(bytes));

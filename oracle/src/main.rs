@@ -8,6 +8,7 @@ include!(concat!(env!("OUT_DIR"), "/modules.rs"));
 mod bench;
 mod bounds;
 mod compare;
+mod cores;
 mod costs;
 mod gen;
 mod lent;
@@ -25,6 +26,7 @@ oracle long SEED COUNT BUDGET THREADS       the same, each with a literal of mor
 oracle exhaustive LENGTH                    all byte strings up to LENGTH; beyond 2 bytes, those of good form
 oracle meaning SEED COUNT                   packet meaning of a written term and of its core, on six fields
 oracle costs SEED COUNT                     what matches cost, all small ones and random ones, through the model, the original and the port
+oracle cores SEED COUNT                     cores read back, the largest, damaged and random ones, through the model, the original and the port
 oracle sample SEED COUNT BUDGET             random vector lines with the model's answers
 oracle bounds SEED COUNT                    lines that compare bounds, all small ones and random ones, with the model's answers
 oracle answer                               completes the vector lines on standard input, from what stands before =>
@@ -66,6 +68,7 @@ fn run(args: Vec<String>) -> bool {
         "exhaustive" => compare::exhaustive(n(2) as usize).print(),
         "meaning" => meaning::run(n(2), n(3)),
         "costs" => costs::run(n(2), n(3)).print(),
+        "cores" => cores::run(n(2), n(3)).print(),
         "sample" => vectors::sample(n(2), n(3), n(4) as i64),
         "bounds" => vectors::bounds(n(2), n(3)),
         "answer" => vectors::answer(),

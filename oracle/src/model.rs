@@ -285,12 +285,21 @@ fn test(field: u32, value: bool) -> Core {
     leaf(TEST, field, value)
 }
 
+/// In prefix order.
+pub fn core_nodes(c: &Core) -> Vec<&CoreNode> {
+    let mut nodes = Vec::new();
+    let mut stack: Vec<&CoreNode> = vec![c];
+    while let Some(n) = stack.pop() {
+        nodes.push(n);
+        stack.extend(n.kids.iter().rev().map(|kid| &**kid));
+    }
+    nodes
+}
+
 pub fn core_bytes(c: &Core) -> Vec<u8> {
     let mut out = Vec::new();
-    let mut stack = vec![c];
-    while let Some(n) = stack.pop() {
+    for n in core_nodes(c) {
         put_record(&Node { kind: n.kind, start: n.field, num: n.value as u8, ..Node::default() }, &mut out);
-        stack.extend(n.kids.iter().rev());
     }
     out
 }

@@ -117,15 +117,27 @@ fn record(e: &Expr) -> (Node, Vec<&Expr>) {
     (n, kids)
 }
 
-pub fn expr_bytes(e: &Expr) -> Vec<u8> {
-    let mut out = Vec::new();
+/// The record of each node, in prefix order.
+fn each_record(e: &Expr, mut take: impl FnMut(Node)) {
     let mut stack = vec![e];
     while let Some(e) = stack.pop() {
         let (n, kids) = record(e);
-        model::put_record(&n, &mut out);
+        take(n);
         stack.extend(kids.into_iter().rev());
     }
+}
+
+pub fn expr_bytes(e: &Expr) -> Vec<u8> {
+    let mut out = Vec::new();
+    each_record(e, |n| model::put_record(&n, &mut out));
     out
+}
+
+/// Kind, field and value of each node of a core.
+pub fn core_records(e: &Expr) -> Vec<[u32; 3]> {
+    let mut records = Vec::new();
+    each_record(e, |n| records.push([n.kind as u32, n.start, n.num as u32]));
+    records
 }
 
 /// A term of good form, straight from its bytes to the original's tree. It looks for missing bytes only.
@@ -302,11 +314,8 @@ pub fn match_nodes(start: u32, end: u32, kind: u32, prefix: u32, a: Vec<bool>, b
 }
 
 fn node_count(e: &Expr) -> u64 {
-    let (mut nodes, mut stack) = (0, vec![e]);
-    while let Some(e) = stack.pop() {
-        nodes += 1;
-        stack.extend(record(e).1);
-    }
+    let mut nodes = 0;
+    each_record(e, |_| nodes += 1);
     nodes
 }
 

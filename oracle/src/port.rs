@@ -1,7 +1,10 @@
 //! The functions of include/netkat.h. Each wrapper also looks for what the header rules out: values beside a refusal, a changed byte
-//! where none may change, a number written behind the lent work memory, an answer that depends on bytes behind a literal. It panics there.
+//! where none may change, a number written behind the lent work memory or beside the lent list, an answer that depends on bytes behind what
+//! is lent. It panics there.
+use crate::cores::Listing;
 use crate::costs::Match;
 use crate::model::{Desugared, Res};
+use std::fmt::Debug;
 
 #[repr(C)]
 #[derive(Clone, Copy, Debug)]
@@ -26,6 +29,7 @@ extern "C" {
     fn netkat_cost(
         start: u32, end: u32, pattern: u32, number: u32, a: *const u8, a_len: usize, a_bits: u32, b: *const u8, b_len: usize, b_bits: u32,
     ) -> Answer;
+    fn netkat_read_core(core: *const u8, core_len: usize, records: *mut u32, records_len: usize) -> Answer;
 }
 
 /// The operation's values, or number and place of the refusal.
@@ -120,8 +124,12 @@ pub fn subrange(a: u32, b: u32, s: u32, e: u32) -> Res<(u32, u32)> {
 }
 
 pub fn cost(m: &Match) -> Res<u64> {
-    let [answer, other] = [0, 0xff].map(|behind| cost_before(m, behind));
-    assert!(answer == other, "bytes behind the literals count: {answer:?}, {other:?}");
+    one_answer([0, 0xff].map(|behind| cost_before(m, behind)))
+}
+
+/// The answer, which does not depend on the bytes behind what was lent.
+fn one_answer<T: PartialEq + Debug>([answer, other]: [T; 2]) -> T {
+    assert!(answer == other, "bytes behind what is lent count: {answer:?}, {other:?}");
     answer
 }
 
@@ -133,4 +141,28 @@ fn cost_before(m: &Match, behind: u8) -> Res<u64> {
         netkat_cost(m.start, m.end, m.pattern, m.number, a.as_ptr(), a_len, m.a.bits, b.as_ptr(), b_len, m.b.bits)
     };
     values(answer).map(|(low, high)| (high as u64) << 32 | low as u64)
+}
+
+/// The record count and the field count.
+pub fn read_core_into(core: &[u8], records: &mut [u32]) -> Res<(u32, u32)> {
+    values(unsafe { netkat_read_core(core.as_ptr(), core.len(), records.as_mut_ptr(), records.len()) })
+}
+
+pub fn read_core(core: &[u8], room: u64) -> Res<Listing> {
+    one_answer([0, 0xff].map(|behind| read_core_before(core, room as usize, behind)))
+}
+
+/// The core is lent as the front of a buffer that goes on with these bytes, the list as the middle of one with marks. Only the list's front,
+/// and only on success, may change.
+fn read_core_before(core: &[u8], room: usize, behind: u8) -> Res<Listing> {
+    let lent = [core, &[behind; BEHIND]].concat();
+    let before: Vec<u32> = (0..room + 2 * BEHIND).map(|i| (i as u32).wrapping_mul(0x9e37_79b9) ^ WORK_MARK).collect();
+    let mut list = before.clone();
+    let answer = read_core_into(&lent[..core.len()], &mut list[BEHIND..BEHIND + room]);
+    assert!(lent[..core.len()] == *core && lent[core.len()..] == [behind; BEHIND], "a byte of the core changed");
+    let written = answer.map_or(0, |(count, _)| 3 * count as usize);
+    let end = BEHIND + written;
+    assert!(written <= room && list[..BEHIND] == before[..BEHIND] && list[end..] == before[end..], "a number changed beside the answer");
+    let records = list[BEHIND..end].chunks_exact(3).map(|record| [record[0], record[1], record[2]]).collect();
+    answer.map(|(_, fields)| Listing { records, fields })
 }

@@ -1,6 +1,7 @@
 //! Vector files: one case a line. docs/TESTS.md has the form of the lines.
 use crate::bounds;
 use crate::compare::Stats;
+use crate::cores::{self, Listing};
 use crate::costs::{self, Match};
 use crate::gen::{self, Gen, Rng};
 use crate::lent::Lent;
@@ -10,10 +11,18 @@ use crate::port;
 pub fn hex(b: &[u8]) -> String {
     if b.is_empty() { "-".into() } else { b.iter().map(|x| format!("{x:02x}")).collect() }
 }
+/// Groups with a dot between them, each with `*` and a number behind it where it stands there more than once.
 pub fn unhex(s: &str) -> Vec<u8> {
     if s == "-" {
         return vec![];
     }
+    let group = |s: &str| {
+        let (digits, times) = s.split_once('*').unwrap_or((s, "1"));
+        digit_bytes(digits).repeat(times.parse().expect("a number"))
+    };
+    s.split('.').flat_map(group).collect()
+}
+fn digit_bytes(s: &str) -> Vec<u8> {
     (0..s.len()).step_by(2).map(|i| u8::from_str_radix(&s[i..(i + 2).min(s.len())], 16).expect("hexadecimal digits")).collect()
 }
 
@@ -28,6 +37,8 @@ enum Case {
     /// Two bounds over a field of so many bits. The library exports no function for it: the model alone answers.
     Compare(u32, Lent, Lent),
     Cost(Match),
+    /// A core, and how many numbers the list has.
+    Read(Vec<u8>, u64),
     /// The program of document 01 on a term.
     Program(Vec<u8>),
 }
@@ -41,6 +52,7 @@ struct Answerer {
     fields: fn(&[u8]) -> Res<u32>,
     subrange: fn(u32, u32, u32, u32) -> Res<(u32, u32)>,
     cost: fn(&Match) -> Res<u64>,
+    read: fn(&[u8], u64) -> Res<Listing>,
 }
 const MODEL: Answerer = Answerer {
     desugar: model::desugar,
@@ -50,6 +62,7 @@ const MODEL: Answerer = Answerer {
     fields: model::fields,
     subrange: model::subrange,
     cost: costs::cost,
+    read: cores::read,
 };
 const PORT: Answerer = Answerer {
     desugar: port::desugar,
@@ -59,6 +72,7 @@ const PORT: Answerer = Answerer {
     fields: port::fields,
     subrange: port::subrange,
     cost: port::cost,
+    read: port::read_core,
 };
 
 fn show<T>(r: Res<T>, values: impl Fn(T) -> String) -> String {
@@ -87,6 +101,7 @@ impl Case {
                 let [start, end, pattern, number] = [1, 2, 3, 4].map(|i| number(i) as u32);
                 Case::Cost(Match { start, end, pattern, number, a: lent(5), b: lent(7) })
             }
+            "read" => Case::Read(unhex(words[1]), number(2)),
             term => Case::Program(unhex(term)),
         }
     }
@@ -103,6 +118,7 @@ impl Case {
             Case::Subrange([a, b, s, e]) => format!("subrange {a} {b} {s} {e}"),
             Case::Compare(width, a, b) => format!("compare {width} {} {}", a.text(), b.text()),
             Case::Cost(m) => m.question(),
+            Case::Read(core, room) => format!("read {} {room}", hex(core)),
             Case::Program(t) => hex(t),
         }
     }
@@ -121,6 +137,9 @@ impl Case {
             Case::Subrange([a, b, s, e]) => show((by.subrange)(*a, *b, *s, *e), |(from, to)| format!("{from} {to}")),
             Case::Compare(width, a, b) => show(bounds::compare(*width, a, b), |(order, looked)| format!("{order} {looked}")),
             Case::Cost(m) => show((by.cost)(m), |nodes| format!("{nodes}")),
+            Case::Read(core, room) => {
+                show((by.read)(core, *room), |l| format!("{} {} {}", l.records.len(), l.fields, cores::text(&l.records)))
+            }
             Case::Program(t) if t.len() > 8192 => "long".into(),
             Case::Program(t) => {
                 show((by.desugar)(t, 1000, work_needed(1000), 7000), |d| format!("{} {} | {}", d.drawn, d.core.len(), hex(&d.core)))
@@ -137,13 +156,13 @@ impl Case {
         match self {
             Case::Desugar { term, .. } | Case::Substitute { term, .. } => Some(term),
             Case::Check(t) | Case::Fragment(t) | Case::Fields(t) | Case::Program(t) => Some(t),
-            Case::Subrange(_) | Case::Compare(..) | Case::Cost(_) => None,
+            Case::Subrange(_) | Case::Compare(..) | Case::Cost(_) | Case::Read(..) => None,
         }
     }
 }
 
 /// Each line's answer by the model and by the port; its term also through every comparison of compare.rs, its lent match through those of
-/// costs.rs.
+/// costs.rs, its core through those of cores.rs.
 pub fn replay(files: &[String]) -> bool {
     let mut stats = Stats::default();
     let mut all_good = true;
@@ -162,10 +181,10 @@ pub fn replay(files: &[String]) -> bool {
                 println!("DIFFERENCE {line}\n    model {model}\n    port  {port}");
             }
             let mut r = Rng::new(good + bad);
-            if let Some(term) = case.term() {
-                stats.case(term, &mut r);
-            } else if let Case::Cost(m) = &case {
-                costs::case(&mut stats, m, &mut r);
+            match &case {
+                Case::Cost(m) => costs::case(&mut stats, m, &mut r),
+                Case::Read(core, room) => cores::case(&mut stats, core, *room),
+                _ => case.term().into_iter().for_each(|term| stats.case(term, &mut r)),
             }
         }
         println!("{file}: {good} as expected, {bad} not");
@@ -203,8 +222,13 @@ pub fn bounds(seed: u64, count: u64) -> bool {
 }
 
 fn random_case(r: &mut Rng, budget: i64) -> Case {
-    if r.pct(5) {
-        return Case::Cost(costs::random(r));
+    match r.below(100) {
+        0..=4 => return Case::Cost(costs::random(r)),
+        5..=9 => {
+            let (core, room) = cores::random(r);
+            return Case::Read(core, room);
+        }
+        _ => {}
     }
     let term = if r.pct(25) {
         // many broken rules

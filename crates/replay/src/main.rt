@@ -15,7 +15,7 @@ const MARK: u8 = 165;
 // The widest field of a range pattern.
 const MAX_RANGE_BITS: u32 = 128;
 
-// What each number of work memory is before a call: its answer does not depend on it.
+// What each number of work memory is before a call: its answer does not depend on it. So is each of a list of records; its bytes are marks.
 const USED: u32 = 0xa5a5_a5a5;
 
 // The head of a case, its numbers read.
@@ -215,6 +215,101 @@ fn costed(term: &[u8], b: &[u8]) -> Answer {
     )
 }
 
+// The index behind i, 0 behind the last of n.
+fn following(i: usize, n: usize) -> usize
+    requires { ⌜ i < n ⌝ }
+{
+    if i + 1 < n { i + 1 } else { 0 }
+}
+
+// Writes the group from `from` up to `end`, over and over, as far as there is room.
+fn fill(out: &mut [u8], from: usize, end: usize, group: &[u8]) {
+    let mut at = from;
+    let mut i = 0;
+    while at < end {
+        if out.len() <= at {
+            return;
+        }
+        if group.len() <= i {
+            return;
+        }
+        out[at] = group[i];
+        i = following(i, group.len());
+        at += 1;
+    }
+}
+
+// The bytes that groups stand for, each behind the one before: of each where it ends, its length, and its bytes, which are written over and
+// over up to that end. Gives the last end.
+fn unpacked(groups: &[u8], out: &mut [u8]) -> usize {
+    let mut at = 0;
+    let mut end = 0;
+    while 8 <= groups.len() - at {
+        let next = field(groups, at) as usize;
+        let n = field(groups, at + 4) as usize;
+        at += 8;
+        if groups.len() - at < n {
+            return end;
+        }
+        fill(out, end, next, &groups[at..at + n]);
+        at += n;
+        end = next;
+    }
+    end
+}
+
+// Whether the bytes are those of the numbers.
+fn same_numbers(numbers: &[u32], bytes: &[u8]) -> bool {
+    let mut i = 0;
+    let mut at = 0;
+    while i < numbers.len() {
+        if bytes.len() - at < 4 {
+            return false;
+        }
+        if numbers[i] != field(bytes, at) {
+            return false;
+        }
+        i += 1;
+        at += 4;
+    }
+    true
+}
+
+// The core that groups stand for, written to `core` and read back to a list of `room` numbers.
+fn core_read(groups: &[u8], core: &mut [u8], list: &mut [u32], room: usize) -> Answer {
+    let n = unpacked(groups, core);
+    if core.len() < n {
+        return none();
+    }
+    if list.len() < room {
+        return none();
+    }
+    netkat::records::netkat_read_core(&core[0..n], &mut list[0..room])
+}
+
+// Whether a core that is read back agrees: its answer, and every number of a list that was marked before. `want` has marks too, and takes
+// the records.
+fn recorded(
+    case: Case,
+    groups: &[u8],
+    records: &[u8],
+    core: &mut [u8],
+    list: &mut [u32],
+    want: &mut [u8],
+) -> bool {
+    let got = core_read(groups, core, list, case.room as usize);
+    unpacked(records, want);
+    agree(expected(case), got) && same_numbers(list, want)
+}
+
+// The same, with memory for the longest core, of 294,910 bytes, and for its 196,605 numbers.
+fn recorded_anew(case: Case, groups: &[u8], records: &[u8]) -> bool {
+    let mut core = [0; 300000];
+    let mut list = [USED; 200064];
+    let mut want = [MARK; 800256];
+    recorded(case, groups, records, &mut core, &mut list, &mut want)
+}
+
 fn order_number(order: Order) -> u32 {
     match order {
         Order::Equal => 0,
@@ -271,6 +366,7 @@ fn agrees(case: Case, term: &[u8], replacement: &[u8], result: &[u8]) -> bool {
             bounds(term, case.work, replacement, case.room, case.allowance),
         ),
         8 => agree(expected(case), costed(term, replacement)),
+        9 => recorded_anew(case, term, replacement),
         _ => false,
     }
 }

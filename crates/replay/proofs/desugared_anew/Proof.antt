@@ -1,13 +1,8 @@
--- `replay::desugared_anew` meets its contract: it is safe. Its array is too long to be counted by computation.
-use mathlib.Core.Path.{_≡_, sym}
-use Prim.Native.Nat.{ℕ}
-use lib.ListN.{length, replicate, length-replicate}
+-- `replay::desugared_anew` meets its contract: it is safe.
 use borrow.Author.Needs.{needs}
+use Rattle.replay.proofs.Arrays.{counted}
 use Rattle.replay.proofs.desugared_anew.Statement.{statement}
 use Rattle.replay.proofs.desugared_anew.Tie as tie
-
-counted : (n a : ℕ) → n ≡ length (replicate n a)
-counted n a = sym (length-replicate n a)
 
 slice-aggregate-desugared : tie.Need-slice-aggregate-desugared
 slice-aggregate-desugared c = counted 900000 2779096485

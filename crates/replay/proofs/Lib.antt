@@ -1,0 +1,2 @@
+-- A law of long arrays.
+mod Arrays
