@@ -2,7 +2,7 @@
 //! netkat_read_core, with the original's tree of the same bytes, and with the form of terms.
 use crate::compare::Stats;
 use crate::gen::{self, Rng};
-use crate::model::{core_nodes, decode, fields, put_record, Core as Tree, Node, Res, ASSIGN, TEST};
+use crate::model::{core_nodes, decode, fields, put_record, Core as Tree, Node, Res, ASSIGN, COMPLEMENT, NEXT, TEST, UNION};
 use crate::vectors::hex;
 use crate::{original, port};
 use std::panic::{catch_unwind, AssertUnwindSafe};
@@ -220,20 +220,18 @@ pub fn beside_desugar(stats: &mut Stats, core: &[u8], tree: &Tree) {
         Err((6 | 7, _)) => stats.count("core read back: too large for num_fields"),
         as_term => stats.same("PORT num_fields and read_core", &shown(core), as_term, counted),
     }
-    match (got, top) {
+    match (&got, top) {
         (Err(refusal), Some(place)) => {
             stats.count("core read back: 25");
-            stats.same("PORT read_core of a desugared core", &shown(core), (25, place as u32), refusal);
+            stats.same("PORT read_core of a desugared core", &shown(core), (25, place as u32), *refusal);
         }
         (Ok(listing), None) => {
             stats.expect(listing.records == records, "PORT read_core of a desugared core: records", || shown(core));
             stats.expect(written(&listing.records) == core, "PORT read_core of a desugared core: bytes", || shown(core));
         }
-        (got, top) => {
-            let answer = got.map(|listing| listing.records.len());
-            stats.differs("PORT read_core of a desugared core: accepted or not", 1, format!("{} {answer:?}, top field {top:?}", shown(core)));
-        }
+        _ => stats.differs("PORT read_core of a desugared core: read or refused", 1, format!("{} {counted:?}, top field {top:?}", shown(core))),
     }
+    beside_original(stats, core, Ok(records), counted.ok());
 }
 
 // ---------------------------------------------------------------- inputs
@@ -315,25 +313,26 @@ pub fn random(r: &mut Rng) -> (Vec<u8>, u64) {
     (core, room)
 }
 
-/// A chain of as many records as are asked for, or one more: operators of one operand; of two, leaning to the left or to the right.
+/// Chains of so many records: of an operator with one operand; of one with two, leaning to the left and to the right.
 fn chains(count: usize, kind: u8, leaf: &[u8]) -> Vec<Vec<u8>> {
     let operator = [1, kind];
     if children(kind as u32) == 1 {
-        return vec![[operator.repeat(count - 1), leaf.to_vec()].concat()];
+        return vec![[&operator.repeat(count - 1), leaf].concat()];
     }
-    let links = count / 2;
-    let left = [operator.repeat(links), leaf.repeat(links + 1)].concat();
-    let right = [[&operator, leaf].concat().repeat(links), leaf.to_vec()].concat();
+    // operators with two operands alone make an odd number of records
+    let root: &[u8] = if count % 2 == 0 { &[1, COMPLEMENT] } else { &[] };
+    let links = (count - 1) / 2;
+    let left = [root, &operator.repeat(links), &leaf.repeat(links + 1)].concat();
+    let right = [root, &[&operator, leaf].concat().repeat(links), leaf].concat();
     vec![left, right]
 }
 
-/// Chains of about 65,535 records, the first and the last of which may be amiss.
+/// Chains of about 65,535 records, also with a byte behind, with a byte lacking, and with a last record that has no kind of a core.
 fn largest(mut each: impl FnMut(Vec<u8>)) {
     let leaves: [&[u8]; 3] = [&[0], &[0x25, TEST, 1, 2, 3, 4, 1], &[0x05, ASSIGN, 0xff, 0xff, 0xff, 0xff]];
-    for count in [MAX_CORE - 1, MAX_CORE, MAX_CORE + 1, MAX_CORE + 2] {
-        for (kind, leaf) in (7..=15).flat_map(|kind| leaves.map(|leaf| (kind, leaf))) {
+    for count in MAX_CORE - 1..=MAX_CORE + 2 {
+        for (kind, leaf) in (UNION..=NEXT).flat_map(|kind| leaves.map(|leaf| (kind, leaf))) {
             for chain in chains(count, kind, leaf) {
-                each([&[1, 13][..], &chain].concat());
                 each([&chain[..], &[0]].concat());
                 each(chain[..chain.len() - 1].to_vec());
                 for wrong in [16, 27] {
@@ -345,16 +344,19 @@ fn largest(mut each: impl FnMut(Vec<u8>)) {
     }
 }
 
-/// A core with each of its bytes changed to each value, lacking, and doubled, and with each end cut off.
+/// A core with each of its bytes changed to each other value, lacking, and doubled, with each end cut off, and with each byte behind it.
 fn all_damaged(core: &[u8], mut each: impl FnMut(Vec<u8>)) {
     for i in 0..core.len() {
         let (front, back) = (&core[..i], &core[i + 1..]);
-        for byte in 0..=u8::MAX {
+        for byte in (0..=u8::MAX).filter(|byte| *byte != core[i]) {
             each([front, &[byte], back].concat());
         }
         each([front, back].concat());
         each([front, &[core[i]; 2], back].concat());
         each(front.to_vec());
+    }
+    for byte in 0..=u8::MAX {
+        each([core, &[byte]].concat());
     }
 }
 
