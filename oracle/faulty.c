@@ -90,13 +90,13 @@ netkat_answer netkat_read_core(const uint8_t *core, size_t core_len, uint32_t *r
 #elif defined(READ_10_BEFORE_25)
     if (a.number == 25 && records_len < 3 * (size_t)a.place + 3) a = (netkat_answer){10, 0, 0, 0};
 #elif defined(READ_WRITES_WHILE_JUDGED)
-    if (a.number != 0 && a.place > 0 && records_len > 0) records[0] = core[1];
+    if (a.number == 8 && records_len > 0) records[0] = core[1];
 #elif defined(READ_FIELDS_ONE_LESS)
     if (a.second > 300) a.second--;
 #elif defined(READ_REST_TOUCHED)
-    if (a.number == 0 && records_len > 3 * (size_t)a.first) records[3 * (size_t)a.first] = 0;
+    if (a.first > 20 && records_len > 3 * (size_t)a.first) records[3 * (size_t)a.first] = 0;
 #elif defined(READ_BEHIND_LIST)
-    if (a.number == 0) records[records_len] = 0; /* the comparison has memory behind what it lends */
+    if (a.first > 20) records[records_len] = 0; /* the comparison has memory behind what it lends */
 #elif defined(READ_SHORT_LIST)
     if (a.number == 10) {
         uint32_t *list = malloc((records_len + 1) * sizeof *list);
@@ -111,7 +111,7 @@ netkat_answer netkat_read_core(const uint8_t *core, size_t core_len, uint32_t *r
 #elif defined(READ_BYTE_BEHIND)
     if (a.number == 1) a = true_read_core(core, core_len + 1, records, records_len);
 #elif defined(READ_LAST_VALUE)
-    if (a.number == 0 && a.first > 20) records[3 * (size_t)a.first - 1] ^= 1;
+    if (a.first > 20) records[3 * (size_t)a.first - 1] ^= 1;
 #elif defined(READ_CORE_CHANGED)
     if (a.number == 8) ((uint8_t *)core)[core_len - 1] = 0;
 #endif
