@@ -230,16 +230,7 @@ fn random_case(r: &mut Rng, budget: i64) -> Case {
         }
         _ => {}
     }
-    let term = if r.pct(25) {
-        // many broken rules
-        let (depth, is_test, size) = (1 + r.below(6) as u32, r.bool(), 2 + r.below(14) as i64);
-        let long = r.pct(18);
-        let mut g = Gen::new(r, 150, size, true);
-        g.long = long;
-        encoded(&if is_test { g.test(depth) } else { g.any(depth) })
-    } else {
-        gen::input(r, budget)
-    };
+    let term = random_term(r, budget);
     match r.below(20) {
         0..=9 => random_desugar(r, term),
         10..=13 => Case::Check(term),
@@ -260,6 +251,18 @@ fn random_case(r: &mut Rng, budget: i64) -> Case {
         18 => Case::Fields(term),
         _ => Case::Subrange(gen::subrange(r)),
     }
+}
+
+/// A random input, or a term that breaks many rules.
+fn random_term(r: &mut Rng, budget: i64) -> Vec<u8> {
+    if !r.pct(25) {
+        return gen::input(r, budget);
+    }
+    let (depth, is_test, size) = (1 + r.below(6) as u32, r.bool(), 2 + r.below(14) as i64);
+    let long = r.pct(18);
+    let mut g = Gen::new(r, 150, size, true);
+    g.long = long;
+    encoded(&if is_test { g.test(depth) } else { g.any(depth) })
 }
 
 fn random_desugar(r: &mut Rng, term: Vec<u8>) -> Case {
