@@ -1,7 +1,6 @@
 -- `replay::fill` meets its contract: it is safe and ends.
 use mathlib.Core.Path.{_≡_}
 use Prim.Native.Nat.{_-_}
-use native.Mathlib.Omega.{arith}
 use borrow.Author.Needs.{needs}
 use lib.ListN.{length, length-set}
 use Rattle.replay.proofs.fill.Statement.{statement}

@@ -1,6 +1,5 @@
 -- `replay::same_numbers` meets its contract: it is safe and ends.
 use Prim.Native.Nat.{_-_, _≤_}
-use native.Mathlib.Omega.{arith}
 use lib.ListN.{length}
 use borrow.Author.Needs.{needs}
 use Rattle.replay.proofs.same_numbers.Statement.{statement}

@@ -1,7 +1,6 @@
 -- `replay::unpacked` meets its contract: it is safe and ends, since each group takes some of the bytes.
-use mathlib.Core.Path.{_≡_, _∙_}
+use mathlib.Core.Path.{_≡_}
 use Prim.Native.Nat.{_-_, _≤_}
-use native.Mathlib.Omega.{arith}
 use lib.ListN.{length}
 use borrow.Author.Needs.{needs}
 use Rattle.replay.proofs.unpacked.Statement.{statement}
