@@ -228,7 +228,7 @@ static netkat_answer call(char *words) {
         return netkat_cost(n[1], n[2], n[3], n[4], a.at, a.len, n[5], b.at, b.len, n[7]);
     }
     read_term(&term, w[1]);
-    if (strcmp(w[0], "readcore") == 0) return netkat_read_core(term.at, term.len, records, n[2]);
+    if (strcmp(w[0], "read") == 0) return netkat_read_core(term.at, term.len, records, n[2]);
     if (strcmp(w[0], "check") == 0) return netkat_check(term.at, term.len);
     if (strcmp(w[0], "fields") == 0) return netkat_num_fields(term.at, term.len);
     if (strcmp(w[0], "desugar") == 0) return netkat_desugar(term.at, term.len, n[2], work, n[3], out, n[4]);
