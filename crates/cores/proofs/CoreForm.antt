@@ -95,6 +95,10 @@ node-is h l =
     List·getD-append (map writtenNode (coreNodes h)) (drop 16 (nodes h)) (node0 (Plain Zero)) (h .kind) (omega arith)
     ∙ List·getD-map writtenNode (coreNodes h) (h .kind) (atom Zero)
 
+-- and it writes that record
+pub node-wrote : {bs : List ℕ} {h : Record} {rest : List ℕ} → Wrote bs h rest → Writes h (writtenNode (coreNode h))
+node-wrote {h = h} w = subst (Writes h) (node-is h (w .small)) (node-writes h (w .legal))
+
 abbrev pub topNode : Core → CoreNode
 topNode (leaf a) = atom a
 topNode (one o c) = unary o
@@ -275,7 +279,7 @@ cores-back (suc left) (suc n) at bs b = go (λ m p cs k. cores-back left m p cs 
         let w = core-only bs h cs b e in
         ok-map (Only left (dueBehind (coreNode h) n) cs) (Only (suc left) (suc n) bs) (λ r. (putOver (coreNode h) n (r .0), r .1))
         (readCores left (dueBehind (coreNode h) n) (at + 1) cs)
-        (λ r o. put-only left n bs cs h w (coreNode h) (subst (Writes h) (node-is h (w .small)) (node-writes h (w .legal))) r o)
+        (λ r o. put-only left n bs cs h w (coreNode h) (node-wrote w) r o)
         (back (dueBehind (coreNode h) n) (at + 1) cs (w .left))
 
 -- ## The whole

@@ -22,7 +22,7 @@ use Rattle.expr.specs.Results.{RecordFound, recordOf}
 use Rattle.expr.specs.declared.records.Head.{Head}
 use Rattle.expr.specs.declared.records.HeadRead.the-variants as head
 use Rattle.expr.proofs.RecordForm.{Legal, fieldBits}
-use Rattle.expr.proofs.NodeForm.{own-node, Writes, node-writes}
+use Rattle.expr.proofs.NodeForm.{own-node, Writes}
 use Rattle.expr.proofs.Slices.{Sliced, bytes-each}
 use Rattle.desugar.specs.CoreBytes.{coreRecord}
 use Rattle.desugar.proofs.RecordBytes.{kind-is, kind-only, atom-map, number-some}
@@ -30,7 +30,7 @@ use Rattle.cores.specs.Reading.{termKind, readCoreRecord, CoreNode, atom
 use Rattle.cores.specs.Results.{CoreRecordFound, operatorBytes, atomBytes}
 use Rattle.cores.specs.declared.records.CoreRecord.{CoreRecord}
 use Rattle.cores.specs.declared.records.RecordRead.the-variants as record-read
-use Rattle.cores.proofs.CoreForm.{Wrote, core-forward, core-only, writtenNode, node-is}
+use Rattle.cores.proofs.CoreForm.{Wrote, core-forward, core-only, writtenNode, node-wrote}
 
 -- ## By the reader of terms
 
@@ -49,7 +49,7 @@ atom-three (Test f v) = refl
 
 -- a core's record has no other fields
 pub three-is : {bs : List ℕ} {h : Record} {rest : List ℕ} → Wrote bs h rest → h ≡ byThree h
-three-is {h = h} w = go (coreNode h) (subst (Writes h) (node-is h (w .small)) (node-writes h (w .legal)))
+three-is {h = h} w = go (coreNode h) (node-wrote w)
   where
     go : (m : CoreNode) → Writes h (writtenNode m) → h ≡ byThree h
     go (atom a) v = sym (v .0) ∙ atom-three a ∙ ap byThree (v .0)

@@ -1,6 +1,6 @@
 -- A core that desugaring makes is within the limits of the reader: its fields have 32 bits, and it is no larger than what was drawn.
-use mathlib.Core.Path.{_≡_, refl, sym, ap, subst, _∙_}
-use mathlib.Core.Bool.{Bool, true, false, cond, not, _&&_, Bool·beq}
+use mathlib.Core.Path.{_≡_, refl, ap, subst}
+use mathlib.Core.Bool.{Bool, true, false, cond, not, Bool·beq}
 use mathlib.Core.Option.{Option, none, some}
 use mathlib.Core.List.{List, [], _∷_, _++_}
 use Prim.Native.Nat.{ℕ, suc, _+_, _-_, _^_, _≤_, _<_}
@@ -9,8 +9,7 @@ use lib.Dec.{leb, eqb}
 use lib.ListN.{length, drop, length-drop}
 use Rattle.literals.specs.Bits.{Bits, valueOf, pad}
 use Rattle.literals.specs.Patterns.{Pattern, Exact, Cidr, Wildcard, IpRange}
-use Rattle.literals.proofs.Logic.{leb-is, eqb-is, and-left, and-right}
-use Rattle.literals.proofs.Bits.{bit-small}
+use Rattle.literals.proofs.Bits.{length-pad, bit-small}
 use Rattle.expr.specs.Answers.{Answer, ok, refuse, andThen, need}
 use Rattle.expr.specs.Terms.{Name, Atom, Zero, One, Top, Dup, End, Assign, Test, Op2, Union, Intersect, Xor, Difference, Sequence, LtlUntil, Core, leaf, one, two, Where, Direct, Alias, Use, Assigns, Tests, Matches, Expr, Plain, Unary, Binary, TestNegation, IfThenElse, Let, LetBitRange, Var, Ranged, records, size}
 use Rattle.expr.specs.Form.{written, Fits, RecordFits}
@@ -22,8 +21,9 @@ use Rattle.desugar.specs.Leaves.{chain, eachBit, testChain, maskedTests, highFi
 use Rattle.desugar.specs.CoreRecords.{atomField}
 use Rattle.desugar.specs.Meter.{Draws, Meter, drawing, drawn, lift, spent, left}
 use Rattle.desugar.specs.Negation.{isOne, isTest, join, joinDraw, again, negate, negateAtom, negatePair}
-use Rattle.desugar.specs.Rules.{boundVariable, knownRange, maxRangeBits, literalRule, patternRule, useRule, rangeRule}
-use Rattle.desugar.proofs.Chains.{length-stretch, stretch-pad}
+use Rattle.desugar.specs.Rules.{boundVariable, knownRange, rangeRule}
+use Rattle.desugar.proofs.Decides.{PatternSuits, UseSuits, RangeSuits, decided, range-decides}
+use Rattle.desugar.proofs.Sorts.{literal-short}
 use Rattle.desugar.proofs.Room.{Weighed, weighed, declined, Fits as Large, desugar-fits}
 use Rattle.cores.specs.Reading.{maxCore, CoreWithin}
 
@@ -125,42 +125,19 @@ low-between false false false s a b h k = (low-bound false s a h, low-bound true
 
 -- ## A use that keeps the rules
 
-needed : (b : Bool) (r at : ℕ) → need b r at ≡ ok tt → b ≡ true
-needed true r at e = refl
-needed false r at e = let z : _≡_ {A = ℕ} 0 1 = cc in absurd (omega arith)
+low-pattern : (p : Pattern) (s n : ℕ) → PatternSuits p n → s + n ≤ 2 ^ 32 → Low (useCore (Matches p) s n)
+low-pattern (Exact a) s n k h = low-test-chain s (pad n a) (omega (arith, length-pad n a k))
+low-pattern (Cidr a m) s n k h = low-test-chain (s + (n - m)) (drop (n - m) a) (omega (arith, length-drop (n - m) a, k .0, k .1))
+low-pattern (Wildcard a m) s n k h = low-chain Intersect One (maskedTests s a m) (omega arith) (low-masked s a m (omega (arith, k .0)))
+low-pattern (IpRange a b) s n k h =
+    low-between (eqb (valueOf (pad n a)) (valueOf (pad n b))) (eqb (valueOf (pad n a)) 0) (eqb (valueOf (pad n b) + 1) (2 ^ length (pad n b))) s (pad n a) (pad n b)
+    (omega (arith, length-pad n a (k .1))) (omega (arith, length-pad n b (k .2)))
 
-both : {A : Type 0} (b : Bool) (r at : ℕ) (x : Answer A) {y : A} → andThen (need b r at) (λ _. x) ≡ ok y → (b ≡ true) × (x ≡ ok y)
-both true r at x e = (refl, e)
-both false r at x e = let z : _≡_ {A = ℕ} 0 1 = cc in absurd (omega arith)
-
-padded : (n : ℕ) (a : Bits) → length a ≤ n → length (pad n a) ≡ n
-padded n a h = ap length (sym (stretch-pad a n h)) ∙ length-stretch a 0 n
-
-low-literal : (w : Where) (a : Bits) (n at : ℕ) → literalRule w a n at ≡ ok tt → length a ≤ n
-low-literal (Direct s e) a n at k = omega (arith, eqb-is (length a) n .0 (needed (eqb (length a) n) 16 at k))
-low-literal (Alias x) a n at k = leb-is (length a) n .0 (needed (leb (length a) n) 15 at k)
-
-low-pattern : (p : Pattern) (s n at : ℕ) → patternRule p n at ≡ ok tt → s + n ≤ 2 ^ 32 → Low (useCore (Matches p) s n)
-low-pattern (Exact a) s n at e h =
-    low-test-chain s (pad n a) (omega (arith, padded n a (leb-is (length a) n .0 (needed (leb (length a) n) 15 at e))))
-low-pattern (Cidr a k) s n at e h =
-    let parts = both (leb k n) 17 at (need (eqb (length a) n) 18 at) e in
-    let long : length a ≡ n = eqb-is (length a) n .0 (needed (eqb (length a) n) 18 at (parts .1)) in
-    low-test-chain (s + (n - k)) (drop (n - k) a) (omega (arith, length-drop (n - k) a, long, leb-is k n .0 (parts .0)))
-low-pattern (Wildcard a m) s n at e h =
-    let long : length a ≡ n = eqb-is (length a) n .0 (and-left (eqb (length a) n) (eqb (length m) n) (needed (eqb (length a) n && eqb (length m) n) 19 at e)) in
-    low-chain Intersect One (maskedTests s a m) (omega arith) (low-masked s a m (omega arith))
-low-pattern (IpRange a b) s n at e h =
-    let parts = both (leb n maxRangeBits && leb (length a) n && leb (length b) n) 20 at (need (leb (valueOf a) (valueOf b)) 21 at) e in
-    let low : length a ≤ n = leb-is (length a) n .0 (and-right (leb n maxRangeBits) (leb (length a) n) (and-left (leb n maxRangeBits && leb (length a) n) (leb (length b) n) (parts .0))) in
-    let high : length b ≤ n = leb-is (length b) n .0 (and-right (leb n maxRangeBits && leb (length a) n) (leb (length b) n) (parts .0)) in
-    low-between (eqb (valueOf (pad n a)) (valueOf (pad n b))) (eqb (valueOf (pad n a)) 0) (eqb (valueOf (pad n b) + 1) (2 ^ length (pad n b))) s (pad n a) (pad n b) (omega (arith, padded n a low)) (omega (arith, padded n b high))
-
-low-use : (w : Where) (u : Use) (s n at : ℕ) → useRule w u n at ≡ ok tt → s + n ≤ 2 ^ 32 → Low (useCore u s n)
-low-use w (Assigns a) s n at e h =
-    low-chain Sequence One (eachBit Assign s (pad n a)) (omega arith) (low-assigns s (pad n a) (omega (arith, padded n a (low-literal w a n at e))))
-low-use w (Tests a) s n at e h = low-test-chain s (pad n a) (omega (arith, padded n a (low-literal w a n at e)))
-low-use w (Matches p) s n at e h = low-pattern p s n at e h
+low-use : (w : Where) (u : Use) (s n : ℕ) → UseSuits w u n → s + n ≤ 2 ^ 32 → Low (useCore u s n)
+low-use w (Assigns a) s n k h =
+    low-chain Sequence One (eachBit Assign s (pad n a)) (omega arith) (low-assigns s (pad n a) (omega (arith, length-pad n a (literal-short w a n k))))
+low-use w (Tests a) s n k h = low-test-chain s (pad n a) (omega (arith, length-pad n a (literal-short w a n k)))
+low-use w (Matches p) s n k h = low-pattern p s n k h
 
 -- ## Operators and negation
 
@@ -286,18 +263,21 @@ desugar-low env (Var x) at l f k =
 desugar-low env (Ranged w u) at l f k =
     low-lift LowEnd (knownRange (findRange env w) at) _ k (low-range env w u at l f) (λ r p _.
     low-lift (λ _. Unit {0}) (rangeRule w u r at) _ k (always (rangeRule w u r at)) (λ _ _ e.
-    let parts = both (leb (r .0) (r .1)) 14 at (useRule w u (r .1 - r .0) at) e in
+    let suits : RangeSuits w u (some r) = decided (range-decides w u r at) e in
     low-drawing (size (useCore u (r .0) (r .1 - r .0))) at (useCore u (r .0) (r .1 - r .0)) k
-    (low-use w u (r .0) (r .1 - r .0) at (parts .1) (omega (arith, leb-is (r .0) (r .1) .0 (parts .0))))))
+    (low-use w u (r .0) (r .1 - r .0) (suits .1) (omega (arith, suits .0)))))
 
 -- ## Within the limits
 
--- a core made without limit is no larger than the sum of its draws
-light : {x : Answer (Core × Meter)} → Weighed Large [] x → IfOk (λ r. size (r .0) ≤ drawnOf 0 (r .1)) x
+-- a core is no larger than what was drawn to make it
+abbrev pub Light : Core × Meter → Type 0
+Light r = size (r .0) ≤ drawnOf 0 (r .1)
+
+pub light : {x : Answer (Core × Meter)} → Weighed Large [] x → IfOk Light x
 light (weighed c ds t e p) = omega (arith, p, ap drawn e)
 light (declined r at) = tt
 
 pub desugared-within : (e : Expr) → Fits e → (c : Core) (ds : List (ℕ × ℕ)) → desugar [] e 0 (spent []) ≡ ok (c, spent ds) → drawn ds ≤ maxCore → CoreWithin c
 desugared-within e f c ds h few =
-    let large : size c ≤ drawn ds = subst (IfOk (λ (r : Core × Meter). size (r .0) ≤ drawnOf 0 (r .1))) h (light (desugar-fits [] e 0 [])) in
+    let large : size c ≤ drawn ds = subst (IfOk Light) h (light (desugar-fits [] e 0 [])) in
     record { few = omega (arith, large, few); fits = low-fits c (subst (IfOk Lows) h (desugar-low [] e 0 tt f (spent []))) }

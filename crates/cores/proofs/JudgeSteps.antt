@@ -16,7 +16,7 @@ use Rattle.expr.specs.Records.{Record}
 use Rattle.expr.specs.Form.{written, atomRecord}
 use Rattle.expr.specs.Operations.{numFields}
 use Rattle.expr.specs.Results.{childCount, arityOf}
-use Rattle.expr.proofs.NodeForm.{Writes, node-writes}
+use Rattle.expr.proofs.NodeForm.{Writes}
 use Rattle.expr.proofs.Arities.{arity-is}
 use Rattle.expr.proofs.Slices.{Sliced, bytes-each}
 use Rattle.desugar.specs.CoreBytes.{coreRecord}
@@ -25,7 +25,7 @@ use Rattle.cores.specs.Results.{CoreRecordFound, widened, settled, count
 use Rattle.cores.specs.declared.records.CoreRecord.{CoreRecord}
 use Rattle.cores.specs.declared.records.RecordRead.{RecordRead}
 use Rattle.cores.specs.declared.records.RecordRead.the-variants as record-read
-use Rattle.cores.proofs.CoreForm.{Wrote, core-only, writtenNode, node-is, sizes}
+use Rattle.cores.proofs.CoreForm.{Wrote, core-only, writtenNode, node-is, sizes, node-wrote}
 
 pub bytes-drop : (n : ℕ) (s : List ℕ) → Bytes s → Bytes (drop n s)
 bytes-drop zero s b = b
@@ -161,7 +161,7 @@ module _ {bs : List ℕ} {h : Record} {rest : List ℕ} (e : readCoreRecord bs �
       λ r.
       let count : at + sizes (suc due) (putOver m due (r .0)) ≡ at + 1 + sizes (dueBehind m due) (r .0) = omega (arith, sizes-put m due (r .0)) in
       let fields : fieldsFrom (suc due) (putOver m due (r .0)) at x ≡ fieldsFrom (dueBehind m due) (r .0) (at + 1) y =
-      fields-put h m (subst (Writes h) (node-is h (w .small)) (node-writes h (w .legal))) due (r .0) at x in
+      fields-put h m (node-wrote w) due (r .0) at x in
       λ i. record { count = count i; fields = fields i; rest = r .1 } in
       ap (λ z. mapAnswer (behind (suc due) at x) (coreAt (readCores left) due at z)) e
       ∙ mapped-twice (λ r. (putOver m due (r .0), r .1)) (behind (suc due) at x) (behind (dueBehind m due) (at + 1) y) (readCores left (dueBehind m due) (at + 1) rest) same

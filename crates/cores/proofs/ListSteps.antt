@@ -11,7 +11,7 @@ use Rattle.expr.specs.Answers.{Answer, ok, refuse, andThen, mapAnswer}
 use Rattle.expr.specs.Terms.{Atom, Zero, One, Top, Dup, End, Assign, Test, Core, Plain, atomKind, op1Kind, op2Kind, size}
 use Rattle.expr.specs.Records.{Record}
 use Rattle.expr.specs.Form.{atomRecord}
-use Rattle.expr.proofs.NodeForm.{Writes, node-writes}
+use Rattle.expr.proofs.NodeForm.{Writes}
 use Rattle.expr.proofs.Slices.{Sliced, bytes-each}
 use Rattle.desugar.specs.CoreRecords.{atomField, atomValue, words}
 use Rattle.desugar.specs.CoreBytes.{coreRecord}
@@ -22,7 +22,7 @@ use Rattle.cores.specs.Results.{CoreRecordFound, Listable, Listed}
 use Rattle.cores.specs.declared.records.CoreRecord.{CoreRecord}
 use Rattle.cores.specs.declared.records.RecordRead.{RecordRead}
 use Rattle.cores.specs.declared.records.RecordRead.the-variants as record-read
-use Rattle.cores.proofs.CoreForm.{Wrote, core-only, writtenNode, node-is, decode-only}
+use Rattle.cores.proofs.CoreForm.{Wrote, core-only, writtenNode, decode-only, node-wrote}
 use Rattle.cores.proofs.JudgeSteps.{bytes-drop}
 
 -- ## The numbers of cores
@@ -57,7 +57,7 @@ atom-words (Test f v) = refl
 
 -- a record's numbers are those of its node
 node-words : {bs : List ℕ} {h : Record} {rest : List ℕ} → Wrote bs h rest → nodeWords (coreNode h) ≡ threeOf h
-node-words {h = h} w = go (coreNode h) (subst (Writes h) (node-is h (w .small)) (node-writes h (w .legal)))
+node-words {h = h} w = go (coreNode h) (node-wrote w)
   where
     go : (m : CoreNode) → Writes h (writtenNode m) → nodeWords m ≡ threeOf h
     go (atom a) v = atom-words a ∙ ap threeOf (v .0)

@@ -26,10 +26,11 @@ use Rattle.desugar.specs.Meter.{Meter, drawn, left}
 use Rattle.desugar.proofs.Limit.{Costs, desugar-costs, gives, stops}
 use Rattle.desugar.proofs.RecordBytes.{records-short, core-bytes}
 use Rattle.desugar.proofs.RefusalPlaces.{desugar-placed, range-placed, rule-placed, variable-placed}
-use Rattle.desugar.proofs.Room.{Weighed, weighed, declined, Fits as Large, desugar-fits}
+use Rattle.desugar.proofs.Room.{desugar-fits}
 use Rattle.cores.specs.Reading.{CoreWithin, decodeCore, maxCore, readCore}
 use Rattle.cores.proofs.CoreForm.{decode-only as core-only}
 use Rattle.cores.proofs.CorePlaces.{decode-placed as core-placed}
+use Rattle.cores.proofs.DesugaredCores.{Light, light}
 use Rattle.cores.proofs.JudgeSteps.{records-written}
 use Rattle.netkat.specs.Check.{check, checkBytes}
 use Rattle.netkat.specs.CheckWords.{checkWalk}
@@ -167,14 +168,6 @@ core-long c = subst (λ (bs : List ℕ). length bs ≤ 7 * size c) (core-bytes c
   where
     itself : Holds (words c) 0 (words c)
     itself = record { fits = omega arith; each = λ k _. ap (λ i. getD (words c) i 0) (zero-add k) }
-
--- a core is no larger than what was drawn to make it
-abbrev Light : Core × Meter → Type 0
-Light r = size (r .0) ≤ drawnOf 0 (r .1)
-
-light : {x : Answer (Core × Meter)} → Weighed Large [] x → IfOk Light x
-light (weighed c ds t e p) = omega (arith, p, ap drawn e)
-light (declined r at) = tt
 
 -- so of an allowance n no more is drawn, and a core has no more records
 abbrev Held : ℕ → Core × Meter → Type 0
