@@ -48,7 +48,7 @@ impl Refusal {
         }
         let outline = Outline::of(policy);
         let place = self.place as usize;
-        // A tree beyond the limits is refused by them and by nothing else. A core has others, and its fields are counted too.
+        // A tree beyond the limits is refused by them and by nothing else; 25 and 41 may be of a core, which has other limits.
         let too_large = matches!(self.number, 11..=24) && outline.spots.len() > MAX_RECORDS;
         let Some(spot) = outline.spots.get(place).filter(|_| !too_large) else {
             return format!("{self}\n  the policy given here has no record {place}, or is beyond the limits: it is not the one that was refused");

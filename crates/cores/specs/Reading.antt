@@ -40,18 +40,19 @@ abbrev pub Cores : ℕ → Type 0
 Cores zero = Unit {0}
 Cores (suc n) = Core × Cores n
 
--- behind the record of a node, before n other cores, so many are due: its operands and those; and the node is put over its operands
+-- how many cores are due after a node's record, if n are due besides it: its operands, then those n
 abbrev pub dueBehind : CoreNode → ℕ → ℕ
 dueBehind (atom a) n = n
 dueBehind (unary o) n = suc n
 dueBehind (binary o) n = suc (suc n)
 
+-- the node with its operands, which are the first of these cores; the n others are kept
 abbrev pub putOver : (m : CoreNode) (n : ℕ) → Cores (dueBehind m n) → Cores (suc n)
 putOver (atom a) n cs = (leaf a, cs)
 putOver (unary o) n cs = (one o (cs .0), cs .1)
 putOver (binary o) n cs = (two o (cs .0) (cs .1 .0), cs .1 .1)
 
--- what reads the cores that are due, the first from the record `at` on, and the bytes that are left
+-- a reader of `due` cores, one after the other; `at` is the index of the next record. It gives the cores, and the bytes that are left
 abbrev pub ReadsCores : Type 0
 ReadsCores = (due at : ℕ) → List ℕ → Answer (Cores due × List ℕ)
 
@@ -60,7 +61,7 @@ abbrev pub coreAt : ReadsCores → (due at : ℕ) → Read Record → Answer (Co
 coreAt reads due at (got h bs) = mapAnswer (λ r. (putOver (coreNode h) due (r .0), r .1)) (reads (dueBehind (coreNode h) due) (at + 1) bs)
 coreAt reads due at (fault r) = refuse r at
 
--- "42, more than 65,535 records, where 6 stood": before a record, if one is due and none is left of those that there may be
+-- "42, more than 65,535 records, where 6 stood": `left` is how many records may still be read; 42 if a core is due and `left` is 0
 abbrev pub readCores : (left : ℕ) → ReadsCores
 readCores zero zero at bs = ok (tt, bs)
 readCores zero (suc due) at bs = refuse 42 at

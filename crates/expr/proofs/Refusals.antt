@@ -1,4 +1,4 @@
--- The refusals of form are 1 to 8.
+-- The refusals of form are 1 to 8, those of a record 1 to 5.
 use mathlib.Core.Path.{_≡_, subst}
 use mathlib.Core.Bool.{Bool, true, false, not, _||_, cond}
 use mathlib.Core.List.{List, [], _∷_}
@@ -16,13 +16,13 @@ use Rattle.expr.specs.Form.{maxRecords, maxDepth, Node, node0, node1, no
 
 abbrev Small : {A : Type 0} → Read A → Type 0
 Small (got a bs) = Unit {0}
-Small (fault r) = (1 ≤ r) × (r ≤ 8)
+Small (fault r) = (1 ≤ r) × (r ≤ 5)
 
 small-then : {A B : Type 0} (x : Read A) (f : A → Reads B) → Small x → ((a : A) (bs : List ℕ) → Small (f a bs)) → Small (goOn x f)
 small-then (got a bs) f h k = k a bs
 small-then (fault r) f h k = h
 
-small-ask : {B : Type 0} (b : Bool) (r : ℕ) (f : Reads B) (bs : List ℕ) → (1 ≤ r) × (r ≤ 8) → ((bs : List ℕ) → Small (f bs)) → Small (goOn (ask b r bs) (λ _. f))
+small-ask : {B : Type 0} (b : Bool) (r : ℕ) (f : Reads B) (bs : List ℕ) → (1 ≤ r) × (r ≤ 5) → ((bs : List ℕ) → Small (f bs)) → Small (goOn (ask b r bs) (λ _. f))
 small-ask true r f bs h k = k bs
 small-ask false r f bs h k = h
 
@@ -51,7 +51,7 @@ small-field : {A B : Type 0} (b : Bool) (m : Reads A) (absent : A) (f : A → Re
 small-field true m absent f bs h k = small-then (m bs) f (h bs) k
 small-field false m absent f bs h k = k absent bs
 
-small-tested : (t : ℕ → Bool) (r : ℕ) → (1 ≤ r) × (r ≤ 8) → (bs : List ℕ) → Small ((nonzero 1 >>= λ v. ask (t v) r >>= λ _. give v) bs)
+small-tested : (t : ℕ → Bool) (r : ℕ) → (1 ≤ r) × (r ≤ 5) → (bs : List ℕ) → Small ((nonzero 1 >>= λ v. ask (t v) r >>= λ _. give v) bs)
 small-tested t r h bs = small-then (nonzero 1 bs) _ (small-number 1 bs) (λ v cs. small-ask (t v) r _ cs h (λ ds. tt))
 
 small-record : (bs : List ℕ) → Small (readRecord bs)
@@ -67,6 +67,9 @@ small-record bs =
     small-field (bitAt 5 m) _ 0 _ b7 (small-tested (λ v. isMatch k || leb v 1) 5 (omega arith, omega arith)) (λ number b8.
     small-field (bitAt 6 m) _ [] _ b8 small-literal (λ a b9.
     small-field (bitAt 7 m) _ [] _ b9 small-literal (λ b b10. tt)))))))))))
+
+pub record-numbers : (bs : List ℕ) {r : ℕ} → readRecord bs ≡ fault r → (1 ≤ r) × (r ≤ 5)
+record-numbers bs e = subst Small e (small-record bs)
 
 -- ## Terms
 
@@ -99,7 +102,7 @@ low-parse (suc d) at bs =
   where
     go : ((at : ℕ) (bs : List ℕ) → Low (parse d at bs)) → (x : Read Record) → Small x → Low (nodeAt (parse d) at x)
     go low (got h cs) k = low-children d low (nodeOf h) (at + 1) cs
-    go low (fault r) k = k
+    go low (fault r) k = (k .0, omega (arith, k .1))
 
 low-whole : (r : Parsed) (bs : List ℕ) → Low (wholeTerm r bs)
 low-whole r [] = tt

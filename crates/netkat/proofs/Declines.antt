@@ -26,8 +26,9 @@ use Rattle.desugar.specs.Negation.{isTest}
 use Rattle.desugar.specs.Rules.{rangeRule}
 use Rattle.desugar.proofs.Limit.{Costs, desugar-costs, drawsOf, gives, limit-of, limited, stops}
 use Rattle.costs.specs.Lent.{lentCost, lentPattern}
+use Rattle.cores.specs.Claims.{CoreNumber}
 use Rattle.cores.specs.Reading.{decodeCore, intoList, readCore}
-use Rattle.cores.proofs.CorePlaces.{core-numbers}
+use Rattle.cores.proofs.CorePlaces.{core-numbers, number-some}
 use Rattle.netkat.specs.Check.{check, checkBytes, firstFailure, testSort}
 use Rattle.netkat.specs.Claims.{Allowed, CostNumber, FirstHighest}
 use Rattle.netkat.specs.Demands.{CheckDeclined, CoreDeclined, CostDeclined, DesugarDeclined, FieldsDeclined, InLimits, SubrangeInside, SubstituteDeclined}
@@ -189,9 +190,14 @@ module _ (bs : List ℕ) (room : ℕ) where
       read (refuse q m) f j = at-refusal C j (CoreDeclined.form q m f)
 
   core-named : (k p : ℕ) → C k p → 1 ≤ k
-  core-named k p (CoreDeclined.form r q f) = core-numbers bs f
+  core-named k p (CoreDeclined.form r q f) = number-some (core-numbers bs f)
   core-named k p (CoreDeclined.field c q f h) = omega arith
   core-named k p (CoreDeclined.short c f h l) = omega arith
+
+  pub core-declined-numbers : (k p : ℕ) → C k p → CoreNumber k
+  core-declined-numbers k p (CoreDeclined.form r q f) = inl (core-numbers bs f)
+  core-declined-numbers k p (CoreDeclined.field c q f h) = inr (inl refl)
+  core-declined-numbers k p (CoreDeclined.short c f h l) = inr (inr refl)
 
   pub core-decided : Decided C (readCore bs room)
   core-decided = decided C (readCore bs room) core-forth core-back core-named

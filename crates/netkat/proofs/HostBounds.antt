@@ -12,7 +12,7 @@ use Rattle.literals.specs.Bits.{Bytes}
 use Rattle.literals.proofs.Logic.{and-left, and-right, leb-is}
 use Rattle.expr.specs.Answers.{Answer, ok, refuse, andThen, mapAnswer, need}
 use Rattle.expr.specs.Terms.{Name, Core, Expr, Plain, Unary, Binary, TestNegation, IfThenElse, Let, LetBitRange, Var, Ranged, records, depth, size}
-use Rattle.expr.specs.Form.{maxRecords, maxDepth, decode, encode, encodeCore, written, Fits, Within}
+use Rattle.expr.specs.Form.{maxRecords, maxDepth, decode, encode, encodeCore, Fits, Within}
 use Rattle.expr.specs.Operations.{isTestFragment, fragmentBytes, numFields, fieldsBytes, substitute, raised, intoRoom, substituteBytes}
 use Rattle.expr.proofs.Places.{Placed, placed-then, placed-need, decode-placed, fields-placed}
 use Rattle.expr.proofs.TermForm.{IfOk}
@@ -27,11 +27,10 @@ use Rattle.desugar.proofs.Limit.{Costs, desugar-costs, gives, stops}
 use Rattle.desugar.proofs.RecordBytes.{records-short, core-bytes}
 use Rattle.desugar.proofs.RefusalPlaces.{desugar-placed, range-placed, rule-placed, variable-placed}
 use Rattle.desugar.proofs.Room.{desugar-fits}
-use Rattle.cores.specs.Reading.{CoreWithin, decodeCore, maxCore, readCore}
-use Rattle.cores.proofs.CoreForm.{decode-only as core-only}
-use Rattle.cores.proofs.CorePlaces.{decode-placed as core-placed}
+use Rattle.cores.specs.Reading.{maxCore, readCore}
+use Rattle.cores.proofs.CoreForm.{decode-only as core-only, read-as}
+use Rattle.cores.proofs.CorePlaces.{read-placed}
 use Rattle.cores.proofs.DesugaredCores.{Light, light}
-use Rattle.cores.proofs.JudgeSteps.{records-written}
 use Rattle.netkat.specs.Check.{check, checkBytes}
 use Rattle.netkat.specs.CheckWords.{checkWalk}
 use Rattle.netkat.proofs.CheckWalk.{check-is-walk}
@@ -225,12 +224,9 @@ Counted r = r .0 ≤ maxCore
 
 pub read-narrow : (bs : List ℕ) (room : ℕ) → Bytes bs → Narrow Counted (mapAnswer (λ p. (size (p .0), p .1)) (readCore bs room))
 read-narrow bs room b =
-    narrow-map Counts Counted (λ p. (size (p .0), p .1)) (readCore bs room)
-    (narrow-then CoreWithin Counts (decodeCore bs) _ (placed-below CoreWithin (maxCore + 1) (omega arith) (decodeCore bs) (core-placed bs b) (λ c e. core-only bs c b e .0)) (λ c w.
-    narrow-then Any Counts (numFields (written c) 0) _
-    (placed-below Any (maxCore + 1) (omega arith) (numFields (written c) 0) (fields-placed (maxCore + 1) (written c) 0 (omega (arith, records-written c, w .few))) (λ _ _. tt)) (λ n _.
-    narrow-then (λ _. leb (3 * size c) room ≡ true) Counts (need (leb (3 * size c) room) 10 0) _ (narrow-need (leb (3 * size c) room) 10) (λ _ _. w .few))))
+    narrow-map Few-records Counted (λ p. (size (p .0), p .1)) (readCore bs room)
+    (placed-below Few-records (maxCore + 1) (omega arith) (readCore bs room) (read-placed bs room b) (λ r e. core-only bs (r .0) b (read-as bs room r e .is) .0 .few))
     (λ _ h. h)
   where
-    Counts : Core × ℕ → Type 0
-    Counts p = size (p .0) ≤ maxCore
+    Few-records : Core × ℕ → Type 0
+    Few-records r = size (r .0) ≤ maxCore

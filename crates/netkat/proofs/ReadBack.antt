@@ -1,20 +1,24 @@
--- What Desugar wrote is read back.
+-- What Desugar wrote is read back; by which numbers and at which places reading is refused.
 use mathlib.Core.Path.{_≡_, ap, subst, _∙_}
 use mathlib.Core.List.{List}
-use Prim.Native.Nat.{ℕ, _≤_}
+use Prim.Native.Nat.{ℕ, _+_, _≤_, _<_}
 use native.Mathlib.Omega.{arith}
 use lib.ListN.{length, take}
 use Rattle.literals.specs.Bits.{Bytes}
 use Rattle.expr.specs.Answers.{Answer, ok, refuse}
 use Rattle.expr.specs.Terms.{Core}
 use Rattle.expr.proofs.FormTheorem.{decode-only}
+use Rattle.expr.proofs.Places.{Placed}
 use Rattle.desugar.specs.Desugar.{desugarBytes, maxAllowance}
-use Rattle.cores.specs.Reading.{CoreWithin, intoList, readCore}
+use Rattle.cores.specs.Claims.{CoreNumber}
+use Rattle.cores.specs.Reading.{CoreWithin, intoList, maxCore, readCore}
 use Rattle.cores.proofs.CoreForm.{read-back}
+use Rattle.cores.proofs.CorePlaces.{read-placed}
 use Rattle.cores.proofs.DesugaredCores.{desugared-within}
 use Rattle.netkat.specs.Claims.{Desugared, Outcome, allowance, beyond, done, long, memory}
 use Rattle.netkat.specs.Entry.{Answers, Desugar, HostsCore, ReadCore}
 use Rattle.netkat.specs.declared.Answer.{Answer as HostAnswer}
+use Rattle.netkat.proofs.Declines.{core-decided, core-declined-numbers}
 use Rattle.netkat.proofs.Demands.{desugar-wrote}
 use Rattle.netkat.proofs.Whole.{desugar-bytes, desugared-bytes}
 
@@ -52,3 +56,9 @@ stored-reads bs b n work out out′ d h z =
       made bs b n work (length out) (take (d .first) out′) (d .second) is,
       λ list list′ r k. subst (λ x. HostsCore x list list′ r) (made-reads bs b n work (length out) (take (d .first) out′) (d .second) is (length list)) k,
     )
+
+pub read-numbers : (bs : List ℕ) → Bytes bs → (room r p : ℕ) → readCore bs room ≡ refuse r p → CoreNumber r × (p ≤ maxCore)
+read-numbers bs b room r p e = (
+  core-declined-numbers bs room r p (core-decided bs room .causes r p .1 e),
+  (let h : p < maxCore + 1 = subst (Placed (maxCore + 1)) e (read-placed bs room b) in omega (arith, h)),
+)

@@ -8,6 +8,7 @@ use mathlib.Core.Option.{some}
 use mathlib.Core.List.{List, [], _∷_, map, List·Memᴰ}
 use Prim.Native.Nat.{ℕ, _+_, _-_, _^_, _≤_, _<_}
 use native.Mathlib.Nat.{zero-add}
+use native.Mathlib.Numerals.{add-one}
 use lib.Dec.{leb}
 use lib.ListN.{length, getD, replicate, take}
 use Rattle.literals.specs.Bits.{Bits, Bytes, bitsOf}
@@ -33,9 +34,10 @@ use Rattle.desugar.proofs.Costs.{cost-is-draw, cost-spends, range-draws-most}
 use Rattle.desugar.proofs.Limit.{limit}
 use Rattle.desugar.proofs.Probes.{further-probes, longer-probes, refused-probes, starred-probes, too-long-probes}
 use Rattle.costs.specs.Lent.{lentCost}
-use Rattle.cores.specs.Reading.{CoreWithin, decodeCore, intoList, readCore}
+use Rattle.cores.specs.Claims.{AsForTerms, CoreNumber}
+use Rattle.cores.specs.Reading.{CoreWithin, decodeCore, intoList, readCore, readCores}
 use Rattle.cores.proofs.CoreForm.{core-exact, decode-many, equal-records, read-back}
-use Rattle.cores.proofs.CoreTerms.{core-is-term, same-fields}
+use Rattle.cores.proofs.CoreTerms.{core-as-term, same-fields}
 use Rattle.netkat.specs.Check.{RulesHold, check, checkBytes, firstFailure, testSort}
 use Rattle.netkat.specs.Claims.{Accepted, AtPoint, CostNumber, Desugared, Desugars, Good, Inside, PointAt, RangeLimit, Refusal, TakesWhole}
 use Rattle.netkat.specs.Demands.{Declined, Demand1, Demand2, Demand3}
@@ -48,7 +50,7 @@ use Rattle.netkat.proofs.Demands.{each-call, never-zero, points-and-who
 use Rattle.netkat.proofs.Inside.{each-record, inside-points, walk-inside, walk-length}
 use Rattle.netkat.proofs.LongLiterals.{accepted-alias, accepted-direct, range-alias, range-direct}
 use Rattle.netkat.proofs.Numbers.{Numbered, desugar-at-numbers}
-use Rattle.netkat.proofs.ReadBack.{made, made-reads, stored-reads}
+use Rattle.netkat.proofs.ReadBack.{made, made-reads, read-numbers, stored-reads}
 use Rattle.netkat.proofs.Rules.{behind-rule, none-fails, rules-append}
 use Rattle.netkat.proofs.Whole.{check-bytes, desugar-bytes, desugared-bytes, refused-bytes}
 
@@ -220,15 +222,25 @@ equal-trees-theorem bs cs room space r s b c d e =
     let same = equal-records bs cs room space r s b c d e in
     ((λ h. same (ap words h)), same)
 
--- "42, more than 65,535 records": at the record behind these, whatever the core
-pub too-many-theorem : (c : Core) → Fits (written c) → 65535 < size c → decodeCore (encodeCore c) ≡ refuse 42 65535
-too-many-theorem = decode-many
+-- "Form refusals hold as for terms, without 6 and 7": of any bytes, form says of a core what it says of a term, tree, number and place, unless 41 or 42
+-- refuses the core, or 6 or 7 the term (cores/specs/Claims.antt: AsForTerms)
+pub as-for-terms-theorem : (bs : List ℕ) → Bytes bs → AsForTerms (decode bs) (decodeCore bs)
+as-for-terms-theorem = core-as-term
 
--- bytes that are a core's and also a term's are of the term that is that core, written; so Field count gives the same count
-pub core-fields-theorem : (bs : List ℕ) → Bytes bs
-    → ((c : Core) (e : Expr) → decodeCore bs ≡ ok c → decode bs ≡ ok e → e ≡ written c)
-    × ((room : ℕ) (r : Core × ℕ) (m : ℕ) → readCore bs room ≡ ok r → fieldsBytes bs ≡ ok m → r .1 ≡ m)
-core-fields-theorem bs b = ((λ c e. core-is-term bs c e b), (λ room r m. same-fields bs room r m b))
+-- so where Field count gives a count, it is the same one
+pub core-fields-theorem : (bs : List ℕ) → Bytes bs → (room : ℕ) (r : Core × ℕ) (m : ℕ) → readCore bs room ≡ ok r → fieldsBytes bs ≡ ok m → r .1 ≡ m
+core-fields-theorem bs b room r m = same-fields bs room r m b
+
+-- "42, more than 65,535 records, where 6 stood": at the record behind these, whatever the core; and before that record is looked at, whatever bytes
+-- are left, or none
+pub too-many-theorem : ((c : Core) → Fits (written c) → 65535 < size c → decodeCore (encodeCore c) ≡ refuse 42 65535)
+    × ((due at : ℕ) (bs : List ℕ) → readCores 0 (due + 1) at bs ≡ refuse 42 at)
+too-many-theorem = (decode-many, (λ due at bs. rw (add-one due) refl))
+
+-- by 1 to 5, 8, 41 or 42, then 25, then 10, and no other number (cores/specs/Claims.antt: CoreNumber), at a place of at most 65,535. Which of them it
+-- is, `demand-1` says
+pub core-numbers-theorem : (bs : List ℕ) → Bytes bs → (room r p : ℕ) → readCore bs room ≡ refuse r p → CoreNumber r × (p ≤ 65535)
+core-numbers-theorem = read-numbers
 
 -- the core of the first starred probe, with its records; 3 for each record, and no more, are asked for
 pub core-read-theorem : (readCore (1 ∷ 8 ∷ 33 ∷ 6 ∷ 1 ∷ 5 ∷ 6 ∷ 1 ∷ 0 ∷ 0 ∷ 0 ∷ []) 9 ≡ ok (two Intersect (leaf (Test 0 true)) (leaf (Test 1 false)), 2))
@@ -237,7 +249,7 @@ pub core-read-theorem : (readCore (1 ∷ 8 ∷ 33 ∷ 6 ∷ 1 ∷ 5 ∷ 6 ∷ 1 
     × (readCore (1 ∷ 14 ∷ 5 ∷ 5 ∷ 254 ∷ 255 ∷ 255 ∷ 255 ∷ []) 6 ≡ ok (one Star (leaf (Assign 4294967294 false)), 4294967295))
 core-read-theorem = (refl, refl, refl, refl)
 
--- each refusal by small bytes, most with the next one's cause as well: 1 before and in the kind, 4, 2, 41 of the kinds 16 and 26, 3, in the field 1
+-- each refusal but 42 by small bytes, most with the next one's cause as well: 1 before and in the kind, 4, 2, 41 of the kinds 16 and 26, 3, in the field 1
 -- and 4, 5; 1 at the second operand, 41 at the first; 8; 25 at the first of two; 10
 pub core-refusals-theorem : (readCore [] 0 ≡ refuse 1 0)
     × (readCore (3 ∷ []) 0 ≡ refuse 1 0)

@@ -1,5 +1,5 @@
--- The three demands, each as one record; proofs/Theorems.antt proves each. The words of the demands and of document 01 stand in quotation
--- marks. "Every call on any bytes ends." has no field: the prover shows it of each function.
+-- The three demands, each as one record; proofs/Theorems.antt proves each. The words of the demands and of documents 01 and 02 stand in
+-- quotation marks. "Every call on any bytes ends." has no field: the prover shows it of each function.
 use mathlib.Core.{Path._≡_, Logic._↔_, Bool.false, Option.some, List.List, List.[], List.List·Memᴰ}
 use Prim.Native.Nat.{ℕ, _+_, _-_, _*_, _^_, _≤_, _<_}
 use lib.{ListN.length, ListN.take, ListN.getD}

@@ -15,7 +15,8 @@ const MARK: u8 = 165;
 // The widest field of a range pattern.
 const MAX_RANGE_BITS: u32 = 128;
 
-// What each number of work memory is before a call: its answer does not depend on it. So is each of a list of records; its bytes are marks.
+// What each number of work memory is before a call: its answer does not depend on it. A list of records has the same number everywhere;
+// each of its bytes is MARK.
 const USED: u32 = 0xa5a5_a5a5;
 
 // The head of a case, its numbers read.
