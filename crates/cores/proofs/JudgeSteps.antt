@@ -149,7 +149,7 @@ due-small (binary o) n = omega arith
 
 module _ {bs : List ℕ} {h : Record} {rest : List ℕ} (e : readCoreRecord bs ≡ got h rest) (w : Wrote bs h rest) where
   -- as many cores are due as the kind says
-  due-is : (due : ℕ) → dueBehind (coreNode h) due ≡ arityOf (h .kind) + due
+  pub due-is : (due : ℕ) → dueBehind (coreNode h) due ≡ arityOf (h .kind) + due
   due-is due = sym (due-count (coreNode h) due) ∙ ap (λ n. n + due) (sym (ap childCount (node-is h (w .small))) ∙ arity-is h)
 
   judged-read : (left due at : ℕ) (x : Answer ℕ)

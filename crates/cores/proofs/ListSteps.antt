@@ -33,7 +33,7 @@ wordsOf zero cs = []
 wordsOf (suc n) cs = words (cs .0) ++ wordsOf n (cs .1)
 
 -- of a node's own record
-abbrev nodeWords : CoreNode → List ℕ
+abbrev pub nodeWords : CoreNode → List ℕ
 nodeWords (atom a) = atomKind a ∷ atomField a ∷ atomValue a ∷ []
 nodeWords (unary o) = op1Kind o ∷ 0 ∷ 0 ∷ []
 nodeWords (binary o) = op2Kind o ∷ 0 ∷ 0 ∷ []
@@ -43,7 +43,7 @@ words-put (atom a) n cs = refl
 words-put (unary o) n cs = refl
 words-put (binary o) n cs = ap (λ (l : List ℕ). op2Kind o ∷ 0 ∷ 0 ∷ l) (append-assoc (words (cs .0)) (words (cs .1 .0)) (wordsOf n (cs .1 .1)))
 
-abbrev threeOf : Record → List ℕ
+abbrev pub threeOf : Record → List ℕ
 threeOf h = h .kind ∷ h .start ∷ h .number ∷ []
 
 atom-words : (a : Atom) → nodeWords (atom a) ≡ threeOf (atomRecord a)
@@ -56,7 +56,7 @@ atom-words (Assign f v) = refl
 atom-words (Test f v) = refl
 
 -- a record's numbers are those of its node
-node-words : {bs : List ℕ} {h : Record} {rest : List ℕ} → Wrote bs h rest → nodeWords (coreNode h) ≡ threeOf h
+pub node-words : {bs : List ℕ} {h : Record} {rest : List ℕ} → Wrote bs h rest → nodeWords (coreNode h) ≡ threeOf h
 node-words {h = h} w = go (coreNode h) (node-wrote w)
   where
     go : (m : CoreNode) → Writes h (writtenNode m) → nodeWords m ≡ threeOf h
@@ -70,11 +70,11 @@ node-words {h = h} w = go (coreNode h) (node-wrote w)
 abbrev Reads : (s : List ℕ) (at left due place : ℕ) → Cores due → Type 0
 Reads s at left due place cs = readCores left due place (drop at s) ≡ ok (cs, [])
 
-abbrev restOf : {A : Type 0} → Answer (A × List ℕ) → List ℕ
+abbrev pub restOf : {A : Type 0} → Answer (A × List ℕ) → List ℕ
 restOf (ok r) = r .1
 restOf (refuse r p) = []
 
-abbrev readOf : {A : Type 0} → A → Answer (A × List ℕ) → A
+abbrev pub readOf : {A : Type 0} → A → Answer (A × List ℕ) → A
 readOf a (ok r) = r .0
 readOf a (refuse r p) = a
 
@@ -155,7 +155,7 @@ pub record Listing (s list₀ list : List ℕ) (at to : ℕ) : Type 0 where
   pub split : words core ≡ done ++ wordsOf due cores
   pub stored : list ≡ sets list₀ 0 done
 
-whole-read : (x : Answer (Cores 1 × List ℕ)) (c : Core) → andThen x (λ r. wholeCore (r .0 .0) (r .1)) ≡ ok c → x ≡ ok ((c, tt), [])
+pub whole-read : (x : Answer (Cores 1 × List ℕ)) (c : Core) → andThen x (λ r. wholeCore (r .0 .0) (r .1)) ≡ ok c → x ≡ ok ((c, tt), [])
 whole-read (refuse r p) c e = let z : _≡_ {A = ℕ} 0 1 = cc in absurd (omega arith)
 whole-read (ok r) c e = go (r .0 .0) (r .1) e
   where

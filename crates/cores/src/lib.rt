@@ -1,5 +1,5 @@
 // Cores read back from their bytes.
-mod records;
+pub mod records;
 
 ghost use mathlib.Core.Path.{_≡_};
 ghost use Prim.Native.Nat.{_≤_};
@@ -24,7 +24,7 @@ pub enum CoreRead {
 }
 
 // The field count so far, with what the record of a kind and a field at a place needs.
-fn widen(fields: FieldCount, kind: u8, field: u32, place: usize) -> FieldCount
+pub fn widen(fields: FieldCount, kind: u8, field: u32, place: usize) -> FieldCount
     ensures { λ r. ⌜ fieldsAnswer r ≡ widened (fieldsAnswer fields) kind field place ⌝ }
 {
     let most = match fields {
@@ -47,7 +47,7 @@ fn widen(fields: FieldCount, kind: u8, field: u32, place: usize) -> FieldCount
 }
 
 // What is answered of a core of good form: 25, then 10, then the counts.
-fn settle(count: usize, fields: FieldCount, room: usize) -> CoreRead
+pub fn settle(count: usize, fields: FieldCount, room: usize) -> CoreRead
     ensures { λ r. ⌜ coreAnswer r ≡ settled count (fieldsAnswer fields) room ⌝ }
 {
     let most = match fields {

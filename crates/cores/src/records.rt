@@ -72,7 +72,7 @@ fn number_of(a: u8, b: u8, c: u8, d: u8) -> u32
 }
 
 // An operator or an atom on a field, which are nearly all records, by its first bytes; of size 0 where there is none of these at the index.
-pub(crate) fn read_short(s: &[u8], at: usize) -> CoreRecord
+pub fn read_short(s: &[u8], at: usize) -> CoreRecord
     requires { ⌜ at ≤ length (now s) ⌝ }
     ensures { λ r. ⌜ ShortFound (drop at (now (s .entry))) r ⌝ }
 {
@@ -110,7 +110,7 @@ pub(crate) fn read_short(s: &[u8], at: usize) -> CoreRecord
 
 // The record at an index, where read_short found it or not. Two functions, because the compiler puts both into each of the two loops that read
 // records, and would put in neither if they were one.
-pub(crate) fn read_core_record(short: CoreRecord, s: &[u8], at: usize) -> RecordRead
+pub fn read_core_record(short: CoreRecord, s: &[u8], at: usize) -> RecordRead
     requires { ⌜ at ≤ length (now s) ⌝ }
     requires { ⌜ ShortFound (drop at (now s)) short ⌝ }
     ensures { λ r. ⌜ CoreRecordFound (drop at (now (s .entry))) r ⌝ }

@@ -6,30 +6,8 @@ use Rattle.literals.proofs.Logic.{and-both, and-left, and-right, beq-is, or-cas
 use Rattle.expr.specs.Terms.{Assign, Atom, Core, Difference, Dup, End, Intersect, LtlUntil, One, Op2, Sequence, Test, Top, Union, Xor, Zero, atomKind, leaf, one, op2Kind, testKind, two}
 use Rattle.desugar.specs.Negation.{again, isOne, isTest, join, negate}
 use Rattle.desugar.specs.Packets.{Others, Packet, Relation, atomMeans, coreMeans, op2Means}
+pub use Rattle.desugar.specs.Packets.{passesAtom, passesPair, passes}
 use Rattle.desugar.proofs.Sorts.{test-of-negate}
-
--- whether a test lets a packet pass
-abbrev pub passesAtom : Atom → Packet → Bool
-passesAtom Zero p = false
-passesAtom One p = true
-passesAtom Top p = false
-passesAtom Dup p = false
-passesAtom End p = false
-passesAtom (Assign f v) p = false
-passesAtom (Test f v) p = Bool·beq (p f) v
-
-abbrev pub passesPair : Op2 → Bool → Bool → Bool
-passesPair Union x y = x || y
-passesPair Intersect x y = x && y
-passesPair Xor x y = not (Bool·beq x y)
-passesPair Difference x y = x && not y
-passesPair Sequence x y = x && y
-passesPair LtlUntil x y = false
-
-abbrev pub passes : Core → Packet → Bool
-passes (leaf a) p = passesAtom a p
-passes (one o c) p = false
-passes (two o a b) p = passesPair o (passes a p) (passes b p)
 
 -- two relations that relate the same packets
 infix 15 _≈_

@@ -1,5 +1,5 @@
 -- What terms and cores mean: relations between packets (document 01, "Packet meaning").
-use mathlib.Core.{Path._≡_, Logic._⊎_, Bool.Bool, Bool.true, Bool.cond, Bool.not, Bool._&&_, Bool._||_, Option.Option, Option.none, Option.some, Option.Option·getD, List.[], List._∷_}
+use mathlib.Core.{Path._≡_, Logic._⊎_, Bool.Bool, Bool.true, Bool.false, Bool.cond, Bool.not, Bool._&&_, Bool._||_, Bool.Bool·beq, Option.Option, Option.none, Option.some, Option.Option·getD, List.[], List._∷_}
 use Prim.Native.Nat.{ℕ, zero, suc, _+_, _-_}
 use lib.{Dec.leb, Dec.ltb, Dec.eqb}
 use Rattle.literals.specs.{Bits.Bits, Bits.valueOf, Bits.bitAt, Patterns.HoldsOf}
@@ -111,3 +111,29 @@ OneStep env (Let x d b) = OneStep (variable x (OneStep env d) ∷ env) b
 OneStep env (LetBitRange x s e b) = OneStep (range x s e ∷ env) b
 OneStep env (Var x) = Option·getD (lookupVariable env x) (Unit {0})
 OneStep env (Ranged w u) = Unit {0}
+
+-- ## Tests
+
+-- whether a core that is a test relates a packet to itself, by computing: proofs/Tests.antt has that it says what `coreMeans` does. Of other cores it
+-- says nothing
+abbrev pub passesAtom : Atom → Packet → Bool
+passesAtom Zero p = false
+passesAtom One p = true
+passesAtom Top p = false
+passesAtom Dup p = false
+passesAtom End p = false
+passesAtom (Assign f v) p = false
+passesAtom (Test f v) p = Bool·beq (p f) v
+
+abbrev pub passesPair : Op2 → Bool → Bool → Bool
+passesPair Union x y = x || y
+passesPair Intersect x y = x && y
+passesPair Xor x y = not (Bool·beq x y)
+passesPair Difference x y = x && not y
+passesPair Sequence x y = x && y
+passesPair LtlUntil x y = false
+
+abbrev pub passes : Core → Packet → Bool
+passes (leaf a) p = passesAtom a p
+passes (one o c) p = false
+passes (two o a b) p = passesPair o (passes a p) (passes b p)

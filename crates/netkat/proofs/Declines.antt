@@ -29,9 +29,12 @@ use Rattle.costs.specs.Lent.{lentCost, lentPattern}
 use Rattle.cores.specs.Claims.{CoreNumber}
 use Rattle.cores.specs.Reading.{decodeCore, intoList, readCore}
 use Rattle.cores.proofs.CorePlaces.{core-numbers, number-some}
+use Rattle.packets.specs.Running.{maxPackets, packetBytes, passing, runPackets, wideEnough}
+use Rattle.packets.specs.Claims.{PacketsNumber}
+use Rattle.packets.proofs.Meaning.{short-is, short-of}
 use Rattle.netkat.specs.Check.{check, checkBytes, firstFailure, testSort}
 use Rattle.netkat.specs.Claims.{Allowed, CostNumber, FirstHighest}
-use Rattle.netkat.specs.Demands.{CheckDeclined, CoreDeclined, CostDeclined, DesugarDeclined, FieldsDeclined, InLimits, SubrangeInside, SubstituteDeclined}
+use Rattle.netkat.specs.Demands.{CheckDeclined, CoreDeclined, CostDeclined, DesugarDeclined, FieldsDeclined, InLimits, PacketsDeclined, SubrangeInside, SubstituteDeclined}
 use Rattle.netkat.specs.Points.{Point, walk}
 use Rattle.netkat.proofs.AtPoint.{refusal-of, seen-answer, seen-at}
 use Rattle.netkat.proofs.Costs.{cost-numbers}
@@ -201,6 +204,72 @@ module _ (bs : List ℕ) (room : ℕ) where
 
   pub core-decided : Decided C (readCore bs room)
   core-decided = decided C (readCore bs room) core-forth core-back core-named
+
+-- ## Run packets
+
+module _ (bs : List ℕ) (room : ℕ) (slice lengths : List ℕ) where
+  abbrev Q : ℕ → ℕ → Type 0
+  Q k p = PacketsDeclined bs room slice lengths k p
+
+  abbrev ps : List (List ℕ)
+  ps = packetBytes lengths slice
+
+  abbrev few : Bool
+  few = leb 1 (length lengths) && leb (length lengths) maxPackets
+
+  few-is : (few ≡ true) ↔ ((1 ≤ length lengths) × (length lengths ≤ maxPackets))
+  few-is = and-iff (leb 1 (length lengths)) (leb (length lengths) maxPackets) (leb-is 1 (length lengths)) (leb-is (length lengths) maxPackets)
+
+  -- what is left to answer of a core that was read
+  abbrev leftOf : Core → ℕ → Bool → Bool → Answer ℕ
+  leftOf c n t f = andThen (need t 48 0) λ _. andThen (need f 49 0) λ _. andThen (wideEnough n ps 0) λ _. ok (passing c ps)
+
+  opened : {x : Answer (Core × ℕ)} → readCore bs room ≡ x → runPackets bs room slice lengths ≡ andThen x (λ r. leftOf (r .0) (r .1) (isTest (r .0)) few)
+  opened f = ap (λ (x : Answer (Core × ℕ)). andThen x (λ r. leftOf (r .0) (r .1) (isTest (r .0)) few)) f
+
+  packets-forth : (k p : ℕ) → Q k p → runPackets bs room slice lengths ≡ refuse k p
+  packets-forth k p (PacketsDeclined.reading r q d) = opened (core-decided bs room .causes r q .0 d)
+  packets-forth k p (PacketsDeclined.noTest c n f t) = opened f ∙ ap (λ b. leftOf c n b few) t
+  packets-forth k p (PacketsDeclined.count c n f t l) = opened f ∙ (λ i. leftOf c n (t i) (false-of few (λ e. l (few-is .0 e)) i))
+  packets-forth k p (PacketsDeclined.short c n i f t l s) =
+      opened f ∙ (λ j. leftOf c n (t j) (few-is .1 l j)) ∙ ap (λ x. andThen x λ _. ok (passing c ps)) (short-is n ps i s)
+
+  packets-back : (k p : ℕ) → runPackets bs room slice lengths ≡ refuse k p → Q k p
+  packets-back k p h = read (readCore bs room) refl (sym (opened refl) ∙ h)
+    where
+      wide : (c : Core) (n : ℕ) → readCore bs room ≡ ok (c, n) → isTest c ≡ true → few ≡ true → (x : Answer (Unit {0})) → wideEnough n ps 0 ≡ x
+          → (andThen x λ _. ok (passing c ps)) ≡ refuse k p → Q k p
+      wide c n f t l (ok y) w e = absurd (ok-is-no-refusal e)
+      wide c n f t l (refuse r q) w e =
+          let s = short-of n ps r q w in
+          at-refusal Q e (subst (λ m. Q m q) (sym (s .0)) (PacketsDeclined.short c n q f t (few-is .0 l) (s .1)))
+
+      counted : (c : Core) (n : ℕ) → readCore bs room ≡ ok (c, n) → isTest c ≡ true → (b : Bool) → few ≡ b → leftOf c n true b ≡ refuse k p → Q k p
+      counted c n f t false l e = at-refusal Q e (PacketsDeclined.count c n f t (λ m. false≢true (sym l ∙ few-is .1 m)))
+      counted c n f t true l e = wide c n f t l (wideEnough n ps 0) refl e
+
+      tested : (c : Core) (n : ℕ) → readCore bs room ≡ ok (c, n) → (b : Bool) → isTest c ≡ b → leftOf c n b few ≡ refuse k p → Q k p
+      tested c n f false t e = at-refusal Q e (PacketsDeclined.noTest c n f t)
+      tested c n f true t e = counted c n f t few refl e
+
+      read : (x : Answer (Core × ℕ)) → readCore bs room ≡ x → andThen x (λ r. leftOf (r .0) (r .1) (isTest (r .0)) few) ≡ refuse k p → Q k p
+      read (ok q) f e = tested (q .0) (q .1) f (isTest (q .0)) refl e
+      read (refuse r q) f e = at-refusal Q e (PacketsDeclined.reading r q (core-decided bs room .causes r q .1 f))
+
+  packets-named : (k p : ℕ) → Q k p → 1 ≤ k
+  packets-named k p (PacketsDeclined.reading r q d) = core-named bs room k p d
+  packets-named k p (PacketsDeclined.noTest c n f t) = omega arith
+  packets-named k p (PacketsDeclined.count c n f t l) = omega arith
+  packets-named k p (PacketsDeclined.short c n i f t l s) = omega arith
+
+  pub packets-declined-numbers : (k p : ℕ) → Q k p → PacketsNumber k
+  packets-declined-numbers k p (PacketsDeclined.reading r q d) = inl (core-declined-numbers bs room k p d)
+  packets-declined-numbers k p (PacketsDeclined.noTest c n f t) = inr (inl refl)
+  packets-declined-numbers k p (PacketsDeclined.count c n f t l) = inr (inr (inl refl))
+  packets-declined-numbers k p (PacketsDeclined.short c n i f t l s) = inr (inr (inr refl))
+
+  pub packets-decided : Decided Q (runPackets bs room slice lengths)
+  packets-decided = decided Q (runPackets bs room slice lengths) packets-forth packets-back packets-named
 
 -- ## Subrange
 

@@ -23,11 +23,12 @@ use Rattle.cores.specs.Reading.{readCore}
 use Rattle.netkat.specs.Check.{RulesHold, checkBytes, testSort}
 use Rattle.netkat.specs.Claims.{Desugared, Desugars, Good}
 use Rattle.netkat.specs.Demands.{AtPassing, Covers, Declined, Demand1, Demand2, Demand3, OnGood, WholeTerm}
-use Rattle.netkat.specs.Entry.{Answers, Call, Check, Cost, Desugar, FieldCount, Hosts, ReadCore, Subrange, Substitute, TestFragment, halved, hosted}
+use Rattle.packets.specs.Running.{runPackets}
+use Rattle.netkat.specs.Entry.{Answers, Call, Check, Cost, Desugar, FieldCount, Hosts, ReadCore, RunPackets, Subrange, Substitute, TestFragment, halved, hosted}
 use Rattle.netkat.specs.Points.{Point, definitions, desugarAt}
 use Rattle.netkat.specs.declared.Answer.{Answer as HostAnswer}
 use Rattle.netkat.proofs.AtPoint.{desugar-at-means, desugar-at-succeeds}
-use Rattle.netkat.proofs.Declines.{Decided, check-decided, core-decided, cost-decided, decided-map, desugar-decided, fields-decided, fragment-decided, subrange-decided, substitute-decided}
+use Rattle.netkat.proofs.Declines.{Decided, check-decided, core-decided, cost-decided, decided-map, desugar-decided, fields-decided, fragment-decided, packets-decided, subrange-decided, substitute-decided}
 use Rattle.netkat.proofs.Forms.{each-form}
 use Rattle.netkat.proofs.OneStepKinds.{one-step-kinds}
 use Rattle.netkat.proofs.Whole.{check-bytes, desugar-bytes, desugared-bytes, rest, within-limits}
@@ -98,6 +99,8 @@ each-call (Cost s e p k a b) out out′ r h = hosted-demand halved r (lentCost s
 each-call (ReadCore bs) out out′ r h =
     hosted-demand (λ p. (size (p .0), p .1)) r (readCore bs (length out)) (core-decided bs (length out)) (h .answer) out out′
     (λ q m e. h .records ∙ ap (λ (y : Answer (Core × ℕ)). bufferAfter (mapAnswer (λ p. words (p .0)) y) out) e)
+each-call (RunPackets bs room ps ns) out out′ r h =
+    hosted-demand halved r (runPackets bs room ps ns) (packets-decided bs room ps ns) (h .0) out out′ (λ q m f. h .1)
 
 -- no refusal has the number 0
 cause-named : {A : Type 0} {D : ℕ → ℕ → Type 0} {x : Answer A} → Decided D x → (k p : ℕ) → D k p → 1 ≤ k
@@ -112,6 +115,7 @@ never-zero (Substitute bs x rs) room = cause-named (substitute-decided bs x rs r
 never-zero (Subrange a b s e) room = cause-named (subrange-decided a b s e)
 never-zero (Cost s e p k a b) room = cause-named (cost-decided s e p k a b)
 never-zero (ReadCore bs) room = cause-named (core-decided bs room)
+never-zero (RunPackets bs room ps ns) none = cause-named (packets-decided bs room ps ns)
 
 -- ## Demand 2
 

@@ -31,6 +31,8 @@ use Rattle.cores.specs.Reading.{maxCore, readCore}
 use Rattle.cores.proofs.CoreForm.{decode-only as core-only, read-as}
 use Rattle.cores.proofs.CorePlaces.{read-placed}
 use Rattle.cores.proofs.DesugaredCores.{Light, light}
+use Rattle.packets.specs.Running.{runPackets}
+use Rattle.packets.proofs.RunLaws.{run-placed}
 use Rattle.netkat.specs.Check.{check, checkBytes}
 use Rattle.netkat.specs.CheckWords.{checkWalk}
 use Rattle.netkat.proofs.CheckWalk.{check-is-walk}
@@ -230,3 +232,8 @@ read-narrow bs room b =
   where
     Few-records : Core × ℕ → Type 0
     Few-records r = size (r .0) ≤ maxCore
+
+-- ## Run packets
+
+pub run-narrow : (bs : List ℕ) (room : ℕ) (slice lengths : List ℕ) → Bytes bs → Narrow Any (runPackets bs room slice lengths)
+run-narrow bs room slice lengths b = placed-below Any (maxCore + 1) (omega arith) (runPackets bs room slice lengths) (run-placed bs room slice lengths b) (λ _ _. tt)

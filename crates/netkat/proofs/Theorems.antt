@@ -10,8 +10,8 @@ use Prim.Native.Nat.{ℕ, _+_, _-_, _^_, _≤_, _<_}
 use native.Mathlib.Nat.{zero-add}
 use native.Mathlib.Numerals.{add-one}
 use lib.Dec.{leb}
-use lib.ListN.{length, getD, replicate, take}
-use Rattle.literals.specs.Bits.{Bits, Bytes, bitsOf}
+use lib.ListN.{length, getD, replicate, take, drop}
+use Rattle.literals.specs.Bits.{Bits, Bytes, bit, bitAt, bitsOf}
 use Rattle.literals.specs.Comparing.{SameTop, StopsWhenDecided, lookedAt}
 use Rattle.literals.specs.Patterns.{IpRange, Pattern}
 use Rattle.literals.specs.Reading.{fault, literal}
@@ -38,6 +38,9 @@ use Rattle.cores.specs.Claims.{AsForTerms, CoreNumber}
 use Rattle.cores.specs.Reading.{CoreWithin, decodeCore, intoList, readCore, readCores}
 use Rattle.cores.proofs.CoreForm.{core-exact, decode-many, equal-records, read-back}
 use Rattle.cores.proofs.CoreTerms.{core-as-term, same-fields}
+use Rattle.packets.specs.Claims.{EachBit, PacketsNumber, total}
+use Rattle.packets.specs.Running.{packetBytes, runPackets}
+use Rattle.packets.proofs.Meaning.{packet-lies, ran-alone, ran-as, ran-means, ran-small, ran-unused}
 use Rattle.netkat.specs.Check.{RulesHold, check, checkBytes, firstFailure, testSort}
 use Rattle.netkat.specs.Claims.{Accepted, AtPoint, CostNumber, Desugared, Desugars, Good, Inside, PointAt, RangeLimit, Refusal, TakesWhole}
 use Rattle.netkat.specs.Demands.{Declined, Demand1, Demand2, Demand3}
@@ -46,6 +49,7 @@ use Rattle.netkat.specs.Points.{Point, Scope, definitions, desugarAt, wa
 use Rattle.netkat.specs.declared.Answer.{Answer as HostAnswer}
 use Rattle.netkat.proofs.AtPoint.{desugar-at-answers, desugar-at-means, desugar-at-succeeds}
 use Rattle.netkat.proofs.Costs.{cost-drawn, cost-numbers}
+use Rattle.netkat.proofs.Declines.{packets-decided, packets-declined-numbers}
 use Rattle.netkat.proofs.Demands.{each-call, never-zero, points-and-whole, trees-and-forms}
 use Rattle.netkat.proofs.Inside.{each-record, inside-points, walk-inside, walk-length}
 use Rattle.netkat.proofs.LongLiterals.{accepted-alias, accepted-direct, range-alias, range-direct}
@@ -398,3 +402,66 @@ pub longer-replacement-theorem : (substituteBytes (encode (Var 1)) 1 (encode (Ra
     ≡ ok (encode (Ranged (Direct 0 192) (Tests stack))))
     × (substituteBytes (encode (Var 1)) 1 (encode (Ranged (Direct 0 193) (Tests (bitsOf 193 1)))) 7000 ≡ refuse 35 0)
 longer-replacement-theorem = (refl, refl)
+
+-- ## Change 8 of document 02: sixty-four packets in one pass (packets/specs/Running.antt)
+
+-- "Each bit is the packet meaning of that core on that packet.": for every packet, bit i of an answer is true exactly if the core relates it to itself
+-- (desugar/specs/Packets.antt: coreMeans), whatever the packet's fields beyond its bytes are (packets/specs/Claims.antt: EachBit, Continues)
+pub each-bit-theorem : (others : Others) (core : List ℕ) (room : ℕ) (slice lengths : List ℕ) (m : ℕ) → runPackets core room slice lengths ≡ ok m
+    → EachBit others core slice lengths m
+each-bit-theorem others core room slice lengths m e = ran-means (ran-as core room slice lengths m e) others
+
+-- "The answer is a 64-bit number ..; unused bits are zero."
+pub unused-bits-theorem : (core : List ℕ) (room : ℕ) (slice lengths : List ℕ) (m : ℕ) → runPackets core room slice lengths ≡ ok m
+    → (m < 2 ^ 64) × ((i : ℕ) → length lengths ≤ i → bitAt i m ≡ false)
+unused-bits-theorem core room slice lengths m e = let r = ran-as core room slice lengths m e in (ran-small r, ran-unused r)
+
+-- "Packets lie end to end in one slice": packet i begins behind those before it, and is cut where the slice ends
+pub packet-lies-theorem : (i : ℕ) (lengths slice : List ℕ) → i < length lengths
+    → getD (packetBytes lengths slice) i [] ≡ take (getD lengths i 0) (drop (total (take i lengths)) slice)
+packet-lies-theorem = packet-lies
+
+-- "users run each through a core": a packet by itself has the bit that it has among the others
+pub packet-alone-theorem : (core : List ℕ) (room : ℕ) (slice lengths : List ℕ) (m : ℕ) → runPackets core room slice lengths ≡ ok m
+    → (i : ℕ) → i < length lengths
+    → let p : List ℕ = getD (packetBytes lengths slice) i [] in runPackets core room p (length p ∷ []) ≡ ok (bit (bitAt i m))
+packet-alone-theorem core room slice lengths m e = ran-alone (ran-as core room slice lengths m e)
+
+-- by which numbers running is refused: those of reading, 48, 49, 50 (packets/specs/Claims.antt: PacketsNumber). Which of them it is, `demand-1` says
+pub packets-numbers-theorem : (core : List ℕ) (room : ℕ) (slice lengths : List ℕ) (r p : ℕ) → runPackets core room slice lengths ≡ refuse r p → PacketsNumber r
+packets-numbers-theorem core room slice lengths r p e =
+    packets-declined-numbers core room slice lengths r p (packets-decided core room slice lengths .causes r p .1 e)
+
+-- the bytes of an operator of kind k on the tests of fields 0 and 1
+abbrev pub both : ℕ → List ℕ
+both k = 1 ∷ k ∷ 33 ∷ 6 ∷ 1 ∷ 37 ∷ 6 ∷ 1 ∷ 0 ∷ 0 ∷ 0 ∷ 1 ∷ []
+
+-- small cores: One on packets without bytes; a test of field 0, of one that is to be false, of field 8 in the second byte; a packet that the slice cuts;
+-- bytes behind the last packet; the five operators of tests on all packets of two bits
+pub packets-run-theorem : (runPackets (1 ∷ 1 ∷ []) 3 [] (0 ∷ 0 ∷ 0 ∷ []) ≡ ok 7)
+    × (runPackets (33 ∷ 6 ∷ 1 ∷ []) 3 (0 ∷ 1 ∷ 2 ∷ 3 ∷ 4 ∷ []) (1 ∷ 1 ∷ 1 ∷ 1 ∷ 1 ∷ []) ≡ ok 10)
+    × (runPackets (1 ∷ 6 ∷ []) 3 (0 ∷ 1 ∷ 2 ∷ 3 ∷ 4 ∷ []) (1 ∷ 1 ∷ 1 ∷ 1 ∷ 1 ∷ []) ≡ ok 21)
+    × (runPackets (37 ∷ 6 ∷ 8 ∷ 0 ∷ 0 ∷ 0 ∷ 1 ∷ []) 3 (128 ∷ 255 ∷ 127 ∷ 1 ∷ []) (2 ∷ 2 ∷ []) ≡ ok 3)
+    × (runPackets (33 ∷ 6 ∷ 1 ∷ []) 3 (0 ∷ 1 ∷ 1 ∷ []) (2 ∷ 4294967295 ∷ []) ≡ ok 2)
+    × (runPackets (33 ∷ 6 ∷ 1 ∷ []) 3 (1 ∷ 1 ∷ 1 ∷ []) (1 ∷ []) ≡ ok 1)
+    × (runPackets (both 7) 9 (0 ∷ 1 ∷ 2 ∷ 3 ∷ []) (1 ∷ 1 ∷ 1 ∷ 1 ∷ []) ≡ ok 14)
+    × (runPackets (both 8) 9 (0 ∷ 1 ∷ 2 ∷ 3 ∷ []) (1 ∷ 1 ∷ 1 ∷ 1 ∷ []) ≡ ok 8)
+    × (runPackets (both 9) 9 (0 ∷ 1 ∷ 2 ∷ 3 ∷ []) (1 ∷ 1 ∷ 1 ∷ 1 ∷ []) ≡ ok 6)
+    × (runPackets (both 10) 9 (0 ∷ 1 ∷ 2 ∷ 3 ∷ []) (1 ∷ 1 ∷ 1 ∷ 1 ∷ []) ≡ ok 2)
+    × (runPackets (both 11) 9 (0 ∷ 1 ∷ 2 ∷ 3 ∷ []) (1 ∷ 1 ∷ 1 ∷ 1 ∷ []) ≡ ok 8)
+packets-run-theorem = (refl, refl, refl, refl, refl, refl, refl, refl, refl, refl, refl)
+
+-- each refusal of its own by a small call, most with the next one's cause as well: 1, 41 and 10 of the core; 48; 49 for none and for 65; 50 for an empty
+-- packet, for one behind the slice's end, where sums pass 32 bits, and for one whose last byte would have to have a ninth bit
+pub packets-refusals-theorem : (runPackets [] 0 [] [] ≡ refuse 1 0)
+    × (runPackets (1 ∷ 7 ∷ 1 ∷ 2 ∷ 1 ∷ 16 ∷ []) 0 [] [] ≡ refuse 41 2)
+    × (runPackets (1 ∷ 2 ∷ []) 2 [] [] ≡ refuse 10 0)
+    × (runPackets (1 ∷ 2 ∷ []) 3 [] [] ≡ refuse 48 0)
+    × (runPackets (33 ∷ 5 ∷ 1 ∷ []) 3 [] (replicate 65 0) ≡ refuse 48 0)
+    × (runPackets (33 ∷ 6 ∷ 1 ∷ []) 3 [] [] ≡ refuse 49 0)
+    × (runPackets (33 ∷ 6 ∷ 1 ∷ []) 3 [] (replicate 65 0) ≡ refuse 49 0)
+    × (runPackets (33 ∷ 6 ∷ 1 ∷ []) 3 (0 ∷ 1 ∷ 2 ∷ []) (1 ∷ 0 ∷ 1 ∷ 0 ∷ []) ≡ refuse 50 1)
+    × (runPackets (33 ∷ 6 ∷ 1 ∷ []) 3 (0 ∷ 1 ∷ 2 ∷ []) (2 ∷ 2 ∷ 2 ∷ []) ≡ refuse 50 2)
+    × (runPackets (33 ∷ 6 ∷ 1 ∷ []) 3 (0 ∷ 1 ∷ 2 ∷ []) (4294967295 ∷ 1 ∷ []) ≡ refuse 50 1)
+    × (runPackets (37 ∷ 6 ∷ 8 ∷ 0 ∷ 0 ∷ 0 ∷ 1 ∷ []) 3 (128 ∷ 255 ∷ 127 ∷ []) (2 ∷ 2 ∷ []) ≡ refuse 50 1)
+packets-refusals-theorem = (refl, refl, refl, refl, refl, refl, refl, refl, refl, refl, refl)

@@ -1,14 +1,15 @@
 -- The three demands, each as one record; proofs/Theorems.antt proves each. The words of the demands and of documents 01 and 02 stand in
 -- quotation marks. "Every call on any bytes ends." has no field: the prover shows it of each function.
-use mathlib.Core.{Path._≡_, Logic._↔_, Bool.false, Option.some, List.List, List.[], List.List·Memᴰ}
+use mathlib.Core.{Path._≡_, Logic._↔_, Bool.true, Bool.false, Option.some, List.List, List.[], List.List·Memᴰ}
 use Prim.Native.Nat.{ℕ, _+_, _-_, _*_, _^_, _≤_, _<_}
 use lib.{ListN.length, ListN.take, ListN.getD}
 use Rattle.literals.specs.{Bits.Bits, Bits.bitAt, Bits.valueOf, Patterns.Pattern, Patterns.Exact, Patterns.Cidr, Patterns.Wildcard, Patterns.IpRange}
 use Rattle.expr.specs.{Answers.Answer, Answers.ok, Answers.refuse, Answers.mapAnswer, Terms.Core, Terms.Name, Terms.size, Terms.Expr, Terms.Ranged, Terms.Where, Terms.Direct, Terms.Assigns, Terms.Tests, Terms.Matches, Terms.records, Terms.depth, Form.decode, Form.encode, Form.written, Form.encodeCore, Form.maxRecords, Form.maxDepth, Form.Within, Operations.substitute}
-use Rattle.desugar.specs.{Bindings.findRange, Meter.drawn, Meter.overdrawn, Desugar.workFor, Packets.Others, Packets.Packet, Packets.coreMeans, Claims.Limit, Claims.TestsFor, Claims.Sets}
+use Rattle.desugar.specs.{Bindings.findRange, Meter.drawn, Meter.overdrawn, Negation.isTest, Desugar.workFor, Packets.Others, Packets.Packet, Packets.coreMeans, Claims.Limit, Claims.TestsFor, Claims.Sets}
 use Rattle.costs.specs.{Lent.lentPattern}
-use Rattle.cores.specs.{Reading.decodeCore}
-use Rattle.netkat.specs.{Points.Scope, Points.Point, Points.walk, Points.definitions, Points.desugarAt, Points.meansAt, Check.RulesHold, Check.firstFailure, Entry.hosted, Entry.Hosts, Entry.Call, Entry.Check, Entry.TestFragment, Entry.FieldCount, Entry.Desugar, Entry.Substitute, Entry.Subrange, Entry.Cost, Entry.ReadCore, Entry.Answers, Claims.FirstHighest, Claims.OneStepKinds, Claims.Good, Claims.Allowed, Claims.Unlimited, Claims.Outcome, Claims.Desugared}
+use Rattle.cores.specs.{Reading.decodeCore, Reading.readCore}
+use Rattle.packets.specs.{Running.maxPackets, Running.packetBytes, Claims.FirstShort}
+use Rattle.netkat.specs.{Points.Scope, Points.Point, Points.walk, Points.definitions, Points.desugarAt, Points.meansAt, Check.RulesHold, Check.firstFailure, Entry.hosted, Entry.Hosts, Entry.Call, Entry.Check, Entry.TestFragment, Entry.FieldCount, Entry.Desugar, Entry.Substitute, Entry.Subrange, Entry.Cost, Entry.ReadCore, Entry.RunPackets, Entry.Answers, Claims.FirstHighest, Claims.OneStepKinds, Claims.Good, Claims.Allowed, Claims.Unlimited, Claims.Outcome, Claims.Desugared}
 use Rattle.netkat.specs.declared.Answer.{Answer as HostAnswer}
 
 -- ## Demand 1: what is refused
@@ -70,6 +71,17 @@ pub data CoreDeclined (bs : List ℕ) (room : ℕ) : (number place : ℕ) → Ty
   field : (c : Core) (p : Point) → decodeCore bs ≡ ok c → FirstHighest (written c) p → CoreDeclined bs room 25 (p .place)
   short : (c : Core) → decodeCore bs ≡ ok c → ((p : Point) → ¬ FirstHighest (written c) p) → room < 3 * size c → CoreDeclined bs room 10 0
 
+-- Run packets (document 02, change 8): "The core's own reading refusals come first. (New, in this order after those: 48 the core is not a test, 49 no
+-- packet or more than 64, 50 the first packet with fewer bits than the field count, its index as place.)" The core that was read is c, n its
+-- field count
+pub data PacketsDeclined (bs : List ℕ) (room : ℕ) (slice lengths : List ℕ) : (number place : ℕ) → Type 0 where
+  reading : (r p : ℕ) → CoreDeclined bs room r p → PacketsDeclined bs room slice lengths r p
+  noTest : (c : Core) (n : ℕ) → readCore bs room ≡ ok (c, n) → isTest c ≡ false → PacketsDeclined bs room slice lengths 48 0
+  count : (c : Core) (n : ℕ) → readCore bs room ≡ ok (c, n) → isTest c ≡ true → ¬ ((1 ≤ length lengths) × (length lengths ≤ maxPackets))
+      → PacketsDeclined bs room slice lengths 49 0
+  short : (c : Core) (n i : ℕ) → readCore bs room ≡ ok (c, n) → isTest c ≡ true → (1 ≤ length lengths) × (length lengths ≤ maxPackets)
+      → FirstShort n (packetBytes lengths slice) i → PacketsDeclined bs room slice lengths 50 i
+
 -- "each by its number and place in document 01": a call with an answer buffer of room bytes, or a list of room numbers, is to be refused by a
 -- number at a place. Those of form are `decode`'s (expr/specs/Form), `lentPattern`'s (costs/specs/Lent) and `decodeCore`'s
 -- (cores/specs/Reading), those of the rules `ruleAt`'s (Check)
@@ -82,6 +94,7 @@ Declined (Substitute bs x rs) room r p = SubstituteDeclined bs x rs room r p
 Declined (Subrange a b s e) room r p = ¬ SubrangeInside a b s e × (r ≡ 28) × (p ≡ 0)
 Declined (Cost s e p k a b) room r q = CostDeclined s e p k a b r q
 Declined (ReadCore bs) room r p = CoreDeclined bs room r p
+Declined (RunPackets bs room ps ns) none r p = PacketsDeclined bs room ps ns r p
 
 -- of an answer r, and the answer buffer before and after the call; declined says by which number and place the call is to be refused
 pub record Demand1 (declined : (number place : ℕ) → Type 0) (out out′ : List ℕ) (r : HostAnswer) : Type 0 where

@@ -4,6 +4,7 @@ mod check;
 pub mod cost;
 pub mod operations;
 pub mod records;
+pub mod run;
 
 ghost use mathlib.Core.Path.{_≡_};
 ghost use mathlib.Core.List.{[]};
@@ -51,5 +52,5 @@ pub extern "C" fn netkat_compute_subrange(
 pub extern "C" fn netkat_version() -> u32
     ensures { λ r. ⌜ r ≡ version ⌝ }
 {
-    1024
+    1280
 }
