@@ -2,19 +2,19 @@
 use mathlib.Core.Path.{_≡_, refl, sym, ap, subst, _∙_}
 use mathlib.Core.Bool.{Bool, true, false, not, cond, _&&_, _||_, false≢true}
 use mathlib.Core.List.{List, [], _∷_}
-use Prim.Native.Nat.{ℕ, zero, suc, _+_, _-_, _*_, _≤_, _<_}
+use Prim.Native.Nat.{ℕ, zero, suc, _+_, _-_, _*_, _^_, _≤_, _<_, max}
 use native.Mathlib.Omega.{arith}
-use borrow.Author.Tests.{lt-ltb, leb-true, leb-false}
-use lib.Dec.{leb, ltb}
+use borrow.Author.Tests.{lt-ltb, le-leb, lt-leb, leb-true, leb-false, ltb-true, eqb-true, not-false}
+use lib.Dec.{leb, ltb, eqb}
 use lib.ListN.{length, drop, length-drop}
 use lib.Seq.{drop-drop}
 use Rattle.literals.specs.Reading.{got}
-use Rattle.literals.proofs.Logic.{and-left, and-right}
+use Rattle.literals.proofs.Logic.{and-both, and-left, and-right, or-right}
 use Rattle.expr.specs.Answers.{Answer, ok, refuse, andThen, mapAnswer, need}
 use Rattle.expr.specs.Terms.{Atom, Zero, One, Top, Dup, End, Assign, Test, Op1, Complement, Star, LtlNext, Op2, Union, Intersect, Xor, Difference, Sequence, LtlUntil, Core, leaf, one, two, testKind, atomKind, op1Kind, op2Kind}
 use Rattle.expr.specs.Records.{Record}
 use Rattle.expr.specs.Results.{arityOf, fieldsAnswer}
-use Rattle.expr.proofs.Arities.{arity-small}
+use Rattle.expr.proofs.Arities.{arity-in, arity-small}
 use Rattle.expr.proofs.Slices.{Sliced, bytes-each}
 use Rattle.desugar.specs.CoreRecords.{atomField, atomValue}
 use Rattle.desugar.specs.CoreBytes.{coreRecord}
@@ -22,12 +22,14 @@ use Rattle.desugar.specs.Negation.{isTest}
 use Rattle.cores.specs.Reading.{maxCore, readCoreRecord, CoreNode, atom, unary, binary, coreNode, Cores, dueBehind, putOver, coreAt, readCores, decodeCore, readCore}
 use Rattle.cores.specs.Results.{CoreRecordFound, ShortFound, widened, settled, countsOf, coreAnswer}
 use Rattle.packets.specs.Running.{passing}
-use Rattle.packets.specs.Results.{settles, combined, leafMask, Frame, first, second, State, stateOf, skipping, fed, opened, looked, stepped, Stepped, nothingYet, Skims, none-read, one-more, Skipped, withMask, Passed}
+use Rattle.packets.specs.Results.{settles, combined, leafMask, Frame, first, second, State, stateOf, skipping, fed, opened, looked, stepped, Stepped, nothingYet, Skims, none-read, one-more, PairIs, PairsRead, SkimsTo, Skipped, withMask, Passed}
 use Rattle.cores.specs.declared.records.CoreRecord.{CoreRecord}
 use Rattle.cores.specs.declared.records.RecordRead.the-variants as record-read
 use Rattle.packets.specs.declared.frames.Progress.{Progress}
 use Rattle.packets.specs.declared.PassRead.the-variants as pass-read
+use Rattle.packets.specs.declared.skim.Skimmed.{Skimmed}
 use Rattle.packets.specs.declared.skim.Spot.{Spot}
+use Rattle.packets.specs.declared.skim.Pair.{Pair}
 use Rattle.cores.specs.declared.CoreRead.{CoreRead}
 use Rattle.cores.specs.declared.CoreRead.the-variants as core-read
 use Rattle.cores.proofs.CoreForm.{Wrote, core-only}
@@ -314,68 +316,6 @@ pass-done {s} {ps} {room} {list} {at} {due} {place} {x} {t} {run} p none over r 
           (sym (and-true t) ∙ left .tests, left .mask (settled-room place x room e′));
     }
 
--- ## The loop of skim
-
-pub record Skimming (s : List ℕ) (from index cores : ℕ) (x₀ : Answer ℕ) (at place skip : ℕ) (x : Answer ℕ) : Type 0 where
-  pub low : place ≤ maxCore
-  pub inside : at ≤ length s
-  pub few : skip + 2 * index ≤ cores + 2 * place
-  pub reads : Skims s from index cores x₀ at place skip x
-
-pub skim-start : (s : List ℕ) (from index cores : ℕ) (x : Answer ℕ) → from ≤ length s → index ≤ maxCore → Skimming s from index cores x from index cores x
-skim-start s from index cores x l m = record { low = m; inside = l; few = omega arith; reads = none-read }
-
--- a record of a test that was read
-record SkimRead (s : List ℕ) (d : CoreRecord) : Type 0 where
-  found : CoreRecordFound s (record-read.Found d)
-  test : testKind (d .kind) ≡ true
-
-skim-read : {s : List ℕ} {d : CoreRecord} {b : Bool} → ShortFound s d → b ≡ (leb 1 (d .size) && (leb 6 (d .kind) && leb (d .kind) 11)) → b ≡ true → SkimRead s d
-skim-read {s} {d} f e h =
-    let all = sym e ∙ h in
-    record {
-      found = f (leb-true 1 (d .size) (and-left (leb 1 (d .size)) _ all));
-      test = later (leb (d .kind) 1) (and-right (leb 1 (d .size)) _ all);
-    }
-  where
-    later : (x : Bool) {y : Bool} → y ≡ true → (x || y) ≡ true
-    later true q = refl
-    later false q = q
-
-module _ {s : List ℕ} {from index cores : ℕ} {x₀ : Answer ℕ} {at place skip : ℕ} {x : Answer ℕ} (k : Skimming s from index cores x₀ at place skip x) {d : CoreRecord} {b : Bool} (f : ShortFound (drop at s) d) (e : b ≡ (leb 1 (d .size) && (leb 6 (d .kind) && leb (d .kind) 11))) (go : (leb maxCore place || not b) ≡ false) where
-  below : place < maxCore
-  below = leb-false maxCore place (no-left (leb maxCore place) go)
-    where
-      no-left : (y : Bool) → (y || not b) ≡ false → y ≡ false
-      no-left true q = q
-      no-left false q = refl
-
-  read : SkimRead (drop at s) d
-  read = skim-read f e (no-right (leb maxCore place) b go)
-    where
-      no-right : (y z : Bool) → (y || not z) ≡ false → z ≡ true
-      no-right true z q = absurd (false≢true (sym q))
-      no-right false true q = refl
-      no-right false false q = absurd (false≢true (sym q))
-
-  pub skim-below : place < maxCore
-  skim-below = below
-
-  pub skim-inside : at + d .size ≤ length s
-  skim-inside = omega (arith, read .found .inside .1, length-drop at s, k .inside)
-
-  pub skim-next : 0 < skip → {n : ℕ} {y : Answer ℕ} → n ≡ arityOf (d .kind) → y ≡ widened x (d .kind) (d .field) place
-      → Skimming s from index cores x₀ (at + d .size) (place + 1) (skip - 1 + n) y
-  skim-next some {n} {y} a w = record {
-    low = omega (arith, below);
-    inside = skim-inside;
-    few = omega (arith, k .few, arity-small (d .kind) n a);
-    reads =
-        subst (λ (z : Answer ℕ). Skims s from index cores x₀ (at + d .size) (place + 1) (skip - 1 + n) z) (sym w)
-        (subst (λ m. Skims s from index cores x₀ (at + d .size) (place + 1) (skip - 1 + m) (widened x (d .kind) (d .field) place)) (sym a)
-        (one-more (k .reads) d some below (read .found) (read .test)));
-  }
-
 -- how far it gets
 pub record Bounded (place cores place′ skip′ : ℕ) : Type 0 where
   pub low : place′ ≤ maxCore
@@ -387,3 +327,166 @@ skims-bounded l none-read = record { low = l; more = omega arith; few = omega ar
 skims-bounded l (one-more {skip′ = skip′} k d some low f test) =
     let b = skims-bounded l k in
     record { low = omega (arith, low); more = omega (arith, b .more); few = omega (arith, b .few, some, arity-small (d .kind) (arityOf (d .kind)) refl) }
+
+-- ## Pairs
+
+no-larger : (k f at : ℕ) (m : ℕ) → 7 ≤ k → widened (ok m) k f at ≡ ok m
+no-larger k f at m h = ap (λ b. cond b (andThen (need (ltb (f + 1) (2 ^ 32)) 25 at) λ _. ok (max m (f + 1))) (ok m)) (and-no (leb 5 k) (lt-leb k 6 (omega (arith, h))))
+  where
+    and-no : (x : Bool) {y : Bool} → y ≡ false → (x && y) ≡ false
+    and-no true e = e
+    and-no false e = refl
+
+test-larger : (k f at m : ℕ) → k ≡ 6 → f + 1 < 2 ^ 32 → widened (ok m) k f at ≡ ok (max m (f + 1))
+test-larger k f at m e h =
+    ap (λ j. widened (ok m) j f at) e ∙ ap (λ b. andThen (need b 25 at) λ _. ok (max m (f + 1))) (lt-ltb (f + 1) (2 ^ 32) h)
+
+-- an operator of tests has two operands
+operator-arity : (k : ℕ) → 7 ≤ k → k ≤ 11 → arityOf k ≡ 2
+operator-arity k l h = sym (arity-in 7 5 2 refl k l (omega (arith, h)))
+
+operator-kind : (k : ℕ) → 7 ≤ k → k ≤ 11 → testKind k ≡ true
+operator-kind k l h = or-right (leb k 1) (leb 6 k && leb k 11) (and-both (le-leb 6 k (omega (arith, l))) (le-leb k 11 h))
+
+-- at equal numbers
+skims-same : {s : List ℕ} {at place skip : ℕ} {x : Answer ℕ} {a b p q k l : ℕ} {y z : Answer ℕ} → a ≡ b → p ≡ q → k ≡ l → y ≡ z
+    → Skims s at place skip x a p k y → Skims s at place skip x b q l z
+skims-same {s} {at} {place} {skip} {x} {a} {b} {p} {q} {k} {l} {y} {z} e f g h w =
+    subst (Skims s at place skip x b q l) h
+    (subst (λ n. Skims s at place skip x b q n y) g (subst (λ n. Skims s at place skip x b n k y) f (subst (λ n. Skims s at place skip x n p k y) e w)))
+
+pub record Pairing (s : List ℕ) (from index fields at place most : ℕ) : Type 0 where
+  pub low : place ≤ maxCore
+  pub inside : at ≤ length s
+  pub skims : (skip : ℕ) → 1 ≤ skip → Skims s from index skip (ok fields) at place skip (ok most)
+
+pub pair-start : (s : List ℕ) (from index fields : ℕ) → from ≤ length s → index ≤ maxCore → Pairing s from index fields from index fields
+pair-start s from index fields l m = record { low = m; inside = l; skims = λ skip h. none-read }
+
+module _ {s : List ℕ} {from index fields at place most : ℕ} (k : Pairing s from index fields at place most) (below : place + 1 < maxCore) {d : Pair} (p : PairIs (drop at s) d) where
+  pair-end : at + p .operator .size + p .test .size ≡ at + d .size
+  pair-end = omega (arith, p .size)
+
+  behind-operator : CoreRecordFound (drop (at + p .operator .size) s) (record-read.Found (p .test))
+  behind-operator = subst (λ (l : List ℕ). CoreRecordFound l (record-read.Found (p .test))) (drop-drop (p .operator .size) at s) (p .second)
+
+  pub pair-inside : at + d .size ≤ length s
+  pair-inside =
+      omega (arith, p .size, p .first .inside .1, behind-operator .inside .1, length-drop at s, length-drop (at + p .operator .size) s, k .inside)
+
+  pub pair-next : {m : ℕ} → m ≡ max most (d .need) → Pairing s from index fields (at + d .size) (place + 2) m
+  pair-next {m} e = record {
+    low = omega (arith, below);
+    inside = pair-inside;
+    skims = λ skip h.
+        let o : CoreRecord = p .operator in
+        let t : CoreRecord = p .test in
+        let one = one-more (k .skims skip h) o (omega (arith, h)) (omega (arith, below)) (p .first) (operator-kind (o .kind) (p .low) (p .high)) in
+        let two =
+        one-more one t (omega (arith, h, operator-arity (o .kind) (p .low) (p .high))) (omega (arith, below)) behind-operator (ap testKind (p .kind)) in
+        let places : place + 1 + 1 ≡ place + 2 = omega arith in
+        let none : arityOf (t .kind) ≡ 0 = ap arityOf (p .kind) in
+        let skips : skip - 1 + arityOf (o .kind) - 1 + arityOf (t .kind) ≡ skip = omega (arith, h, none, operator-arity (o .kind) (p .low) (p .high)) in
+        let counts : widened (widened (ok most) (o .kind) (o .field) place) (t .kind) (t .field) (place + 1) ≡ ok m =
+        ap (λ x. widened x (t .kind) (t .field) (place + 1)) (no-larger (o .kind) (o .field) place most (p .low))
+        ∙ test-larger (t .kind) (t .field) (place + 1) most (p .kind) (p .below) ∙ ap ok (ap (max most) (sym (p .need)) ∙ sym e) in
+        skims-same pair-end places skips counts two;
+  }
+
+pub pairs-read : {s : List ℕ} {from index fields at place most : ℕ} → Pairing s from index fields at place most
+    → PairsRead s from index fields (record { at = at; place = place; most = most })
+pairs-read k = record { inside = k .inside; skims = k .skims }
+
+-- a pair that was read
+module _ {s : List ℕ} {o : CoreRecord} {x : Bool} (f : ShortFound s o) (e : x ≡ (leb 1 (o .size) && (leb 7 (o .kind) && leb (o .kind) 11))) (h : not x ≡ false) where
+  operator-all : (leb 1 (o .size) && (leb 7 (o .kind) && leb (o .kind) 11)) ≡ true
+  operator-all = sym e ∙ not-false x h
+
+  pub operator-found : CoreRecordFound s (record-read.Found o)
+  operator-found = f (leb-true 1 (o .size) (and-left (leb 1 (o .size)) _ operator-all))
+
+  pub pair-found : {t : CoreRecord} {y : Bool} → ShortFound (drop (o .size) s) t → y ≡ (leb 1 (t .size) && (eqb (t .kind) 6 && ltb (t .field) 4294967295)) → not y ≡ false
+      → PairIs s (record { size = o .size + t .size; need = t .field + 1 })
+  pair-found {t} {y} g u w =
+      let all : (leb 1 (t .size) && (eqb (t .kind) 6 && ltb (t .field) 4294967295)) ≡ true = sym u ∙ not-false y w in
+      let last = and-right (leb 1 (t .size)) (eqb (t .kind) 6 && ltb (t .field) 4294967295) all in
+      let kinds = and-right (leb 1 (o .size)) (leb 7 (o .kind) && leb (o .kind) 11) operator-all in
+      record {
+        operator = o;
+        test = t;
+        first = operator-found;
+        second = g (leb-true 1 (t .size) (and-left (leb 1 (t .size)) _ all));
+        low = leb-true 7 (o .kind) (and-left (leb 7 (o .kind)) (leb (o .kind) 11) kinds);
+        high = leb-true (o .kind) 11 (and-right (leb 7 (o .kind)) (leb (o .kind) 11) kinds);
+        kind = eqb-true (t .kind) 6 (and-left (eqb (t .kind) 6) (ltb (t .field) 4294967295) last);
+        below = omega (arith, ltb-true (t .field) 4294967295 (and-right (eqb (t .kind) 6) (ltb (t .field) 4294967295) last));
+        size = refl;
+        need = refl;
+      }
+
+-- ## The loop of skim
+
+-- one run behind another
+skims-then : {s : List ℕ} {at place skip : ℕ} {x : Answer ℕ} {at′ place′ skip′ : ℕ} {x′ : Answer ℕ} {at″ place″ skip″ : ℕ} {x″ : Answer ℕ}
+    → Skims s at place skip x at′ place′ skip′ x′ → Skims s at′ place′ skip′ x′ at″ place″ skip″ x″ → Skims s at place skip x at″ place″ skip″ x″
+skims-then h none-read = h
+skims-then h (one-more k d some low f test) = one-more (skims-then h k) d some low f test
+
+pub record Skimming (s : List ℕ) (from index cores : ℕ) (x₀ : Answer ℕ) (at place skip : ℕ) (x : Answer ℕ) : Type 0 where
+  pub low : place ≤ maxCore
+  pub inside : at ≤ length s
+  pub reads : Skims s from index cores x₀ at place skip x
+
+pub skim-start : (s : List ℕ) (from index cores : ℕ) (x : Answer ℕ) → from ≤ length s → index ≤ maxCore → Skimming s from index cores x from index cores x
+skim-start s from index cores x l m = record { low = m; inside = l; reads = none-read }
+
+-- a record of a test that was read
+record SkimRead (s : List ℕ) (d : CoreRecord) : Type 0 where
+  found : CoreRecordFound s (record-read.Found d)
+  test : testKind (d .kind) ≡ true
+
+skim-read : {s : List ℕ} {d : CoreRecord} {b : Bool} → ShortFound s d → b ≡ (leb 1 (d .size) && (leb 6 (d .kind) && leb (d .kind) 11)) → b ≡ true → SkimRead s d
+skim-read {s} {d} f e h =
+    let all = sym e ∙ h in
+    record {
+      found = f (leb-true 1 (d .size) (and-left (leb 1 (d .size)) _ all));
+      test = or-right (leb (d .kind) 1) (leb 6 (d .kind) && leb (d .kind) 11) (and-right (leb 1 (d .size)) _ all);
+    }
+
+-- behind pairs, up to the record that is next
+module _ {s : List ℕ} {from index cores : ℕ} {x₀ : Answer ℕ} {at place skip : ℕ} {x : Answer ℕ} (k : Skimming s from index cores x₀ at place skip x) (r : Skimmed) (w : SkimsTo s at place skip x r) (end : (r .at ≤ length s) × (r .skip ≡ skip)) where
+  pub skim-pairs : Skimming s from index cores x₀ (r .at) (r .place) skip (fieldsAnswer (r .fields))
+  skim-pairs = record {
+    low = skims-bounded (k .low) w .low;
+    inside = end .0;
+    reads = subst (λ n. Skims s from index cores x₀ (r .at) (r .place) n (fieldsAnswer (r .fields))) (end .1) (skims-then (k .reads) w);
+  }
+
+  pub skim-stop : SkimsTo s from index cores x₀ r
+  skim-stop = skims-then (k .reads) w
+
+module _ {s : List ℕ} {from index cores : ℕ} {x₀ : Answer ℕ} {at place skip : ℕ} {x : Answer ℕ} (k : Skimming s from index cores x₀ at place skip x) {d : CoreRecord} {b : Bool} (f : ShortFound (drop at s) d) (e : b ≡ (leb 1 (d .size) && (leb 6 (d .kind) && leb (d .kind) 11))) (go : (leb maxCore place || not b) ≡ false) where
+  neither : (y z : Bool) → (y || not z) ≡ false → (y ≡ false) × (z ≡ true)
+  neither true z q = absurd (false≢true (sym q))
+  neither false true q = (refl, refl)
+  neither false false q = absurd (false≢true (sym q))
+
+  read : SkimRead (drop at s) d
+  read = skim-read f e (neither (leb maxCore place) b go .1)
+
+  pub skim-below : place < maxCore
+  skim-below = leb-false maxCore place (neither (leb maxCore place) b go .0)
+
+  pub skim-inside : at + d .size ≤ length s
+  skim-inside = omega (arith, read .found .inside .1, length-drop at s, k .inside)
+
+  pub skim-next : 0 < skip → {n : ℕ} {y : Answer ℕ} → n ≡ arityOf (d .kind) → y ≡ widened x (d .kind) (d .field) place
+      → Skimming s from index cores x₀ (at + d .size) (place + 1) (skip - 1 + n) y
+  skim-next some {n} {y} a w = record {
+    low = omega (arith, skim-below);
+    inside = skim-inside;
+    reads =
+        subst (λ (z : Answer ℕ). Skims s from index cores x₀ (at + d .size) (place + 1) (skip - 1 + n) z) (sym w)
+        (subst (λ m. Skims s from index cores x₀ (at + d .size) (place + 1) (skip - 1 + m) (widened x (d .kind) (d .field) place)) (sym a)
+        (one-more (k .reads) d some skim-below (read .found) (read .test)));
+  }

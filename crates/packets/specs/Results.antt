@@ -13,6 +13,8 @@ use Rattle.packets.specs.declared.masks.Capture.{Capture}
 use Rattle.packets.specs.declared.frames.Progress.{Progress}
 use Rattle.packets.specs.declared.skim.Skimmed.{Skimmed}
 use Rattle.packets.specs.declared.skim.Spot.{Spot}
+use Rattle.packets.specs.declared.skim.Pair.{Pair}
+use Rattle.packets.specs.declared.skim.Pairs.{Pairs}
 use Rattle.packets.specs.declared.Pass.{Pass}
 use Rattle.packets.specs.declared.PassRead.{PassRead}
 use Rattle.cores.specs.declared.CoreRead.{CoreRead}
@@ -135,6 +137,28 @@ pub data Skims (s : List ℕ) (at place skip : ℕ) (x : Answer ℕ) : (at′ pl
   one-more : {at′ place′ skip′ : ℕ} {x′ : Answer ℕ} → Skims s at place skip x at′ place′ skip′ x′
       → (d : CoreRecord) → 0 < skip′ → place′ < maxCore → CoreRecordFound (drop at′ s) (record-read.Found d) → testKind (d .kind) ≡ true
       → Skims s at place skip x (at′ + d .size) (place′ + 1) (skip′ - 1 + arityOf (d .kind)) (widened x′ (d .kind) (d .field) place′)
+
+-- an operator of tests and a Test behind it: their bytes, and the fields that the Test needs
+pub record PairIs (s : List ℕ) (d : Pair) : Type 0 where
+  pub operator : CoreRecord
+  pub test : CoreRecord
+  pub first : CoreRecordFound s (record-read.Found operator)
+  pub second : CoreRecordFound (drop (operator .size) s) (record-read.Found test)
+  pub low : 7 ≤ operator .kind
+  pub high : operator .kind ≤ 11
+  pub kind : test .kind ≡ 6
+  pub below : test .field + 1 < 2 ^ 32
+  pub size : d .size ≡ operator .size + test .size
+  pub need : d .need ≡ test .field + 1
+
+-- they stand at the front of the bytes, if there is a size
+abbrev pub PairFound : List ℕ → Pair → Type 0
+PairFound s d = 1 ≤ d .size → PairIs s d
+
+-- however many cores are skipped, as many are behind pairs
+pub record PairsRead (s : List ℕ) (at place fields : ℕ) (r : Pairs) : Type 0 where
+  pub inside : r .at ≤ length s
+  pub skims : (skip : ℕ) → 1 ≤ skip → Skims s at place skip (ok fields) (r .at) (r .place) skip (ok (r .most))
 
 -- so many were skipped of those that need not be looked at; with bounds
 pub record Skipped (s : List ℕ) (at place due : ℕ) (x : Answer ℕ) (run : Progress) (r : Spot) : Type 0 where

@@ -1,12 +1,12 @@
 // Records that are judged and not looked at.
 ghost use mathlib.Core.Path.{_≡_};
 ghost use mathlib.Core.Bool.{_&&_};
-ghost use Prim.Native.Nat.{_+_, _*_, _≤_};
-ghost use lib.Dec.{leb};
-ghost use lib.ListN.{length};
+ghost use Prim.Native.Nat.{_+_, _*_, _≤_, max};
+ghost use lib.Dec.{leb, ltb, eqb};
+ghost use lib.ListN.{length, drop};
 ghost use Rattle.expr.specs.Results.{fieldsAnswer};
 ghost use Rattle.cores.specs.Reading.{maxCore};
-ghost use Rattle.packets.specs.Results.{SkimsTo, Skipped};
+ghost use Rattle.packets.specs.Results.{PairFound, PairsRead, SkimsTo, Skipped};
 use crate::frames::Progress;
 use cores::MAX_CORE;
 use cores::records;
@@ -29,11 +29,117 @@ pub struct Skimmed {
     pub fields: FieldCount,
 }
 
+// The bytes of an operator and a Test, and the fields that the Test needs.
+struct Pair {
+    size: usize,
+    need: u32,
+}
+
+// The byte and the record behind pairs, and the field count.
+struct Pairs {
+    at: usize,
+    place: usize,
+    most: u32,
+}
+
 // Whether a record was read that a test may have, an operator or a Test.
 fn is_skimmed(size: usize, kind: u8) -> bool
     ensures { λ r. ⌜ r ≡ (leb 1 size && (leb 6 kind && leb kind 11)) ⌝ }
 {
     (1 <= size) & ((6 <= kind) & (kind <= 11))
+}
+
+// Whether a record was read that is an operator of tests.
+fn is_operator(size: usize, kind: u8) -> bool
+    ensures { λ r. ⌜ r ≡ (leb 1 size && (leb 7 kind && leb kind 11)) ⌝ }
+{
+    (1 <= size) & ((7 <= kind) & (kind <= 11))
+}
+
+// Whether a record was read that is a Test of a field below the top one.
+fn is_test(size: usize, kind: u8, field: u32) -> bool
+    ensures { λ r. ⌜ r ≡ (leb 1 size && (eqb kind 6 && ltb field 4294967295)) ⌝ }
+{
+    (1 <= size) & ((kind == 6) & (field < 0xffff_ffff))
+}
+
+// An operator and a Test behind it, which most records of a test are: their bytes, and the fields that the Test needs. Of size 0 where there
+// are no such two at the index.
+fn read_pair(s: &[u8], at: usize) -> Pair
+    requires { ⌜ at ≤ length (now s) ⌝ }
+    ensures { λ r. ⌜ PairFound (drop at (now (s .entry))) r ⌝ }
+{
+    let none = Pair { size: 0, need: 0 };
+    let operator = records::read_short(s, at);
+    if !is_operator(operator.size, operator.kind) {
+        return none;
+    }
+    let test = records::read_short(s, at + operator.size);
+    if !is_test(test.size, test.kind, test.field) {
+        return none;
+    }
+    Pair {
+        size: operator.size + test.size,
+        need: test.field + 1,
+    }
+}
+
+// The larger of two numbers.
+fn larger(a: u32, b: u32) -> u32
+    ensures { λ r. ⌜ r ≡ max a b ⌝ }
+{
+    if a < b {
+        return b;
+    }
+    a
+}
+
+// As many pairs as there are, one behind the other: they change nothing in how many cores are to be skipped.
+fn skim_pairs(s: &[u8], from: usize, index: usize, fields: u32) -> Pairs
+    requires { ⌜ (from ≤ length (now s)) × (index ≤ maxCore) ⌝ }
+    ensures { λ r. ⌜ PairsRead (now (s .entry)) from index fields r ⌝ }
+{
+    let mut at = from;
+    let mut place = index;
+    let mut most = fields;
+    while place + 1 < MAX_CORE {
+        let pair = read_pair(s, at);
+        let size = pair.size;
+        if size == 0 {
+            return Pairs { at, place, most };
+        }
+        most = larger(most, pair.need);
+        at += size;
+        place += 2;
+    }
+    Pairs { at, place, most }
+}
+
+// Pairs, where cores are skipped.
+fn skip_pairs(s: &[u8], at: usize, place: usize, skip: usize, fields: FieldCount) -> Skimmed
+    requires { ⌜ (at ≤ length (now s)) × (place ≤ maxCore) × (1 ≤ skip) ⌝ }
+    ensures { λ r. ⌜ SkimsTo (now (s .entry)) at place skip (fieldsAnswer fields) r ⌝ }
+    ensures { λ r. ⌜ (r .at ≤ length (now (s .entry))) × (r .skip ≡ skip) ⌝ }
+{
+    let most = match fields {
+        FieldCount::Refused(_, _) => {
+            return Skimmed {
+                at,
+                place,
+                skip,
+                fields,
+            }
+        }
+        FieldCount::Count(most) => most,
+    };
+    let next = skim_pairs(s, at, place, most);
+    let count = FieldCount::Count(next.most);
+    Skimmed {
+        at: next.at,
+        place: next.place,
+        skip,
+        fields: count,
+    }
 }
 
 // Skips so many cores, as long as their records are those of tests and soon read: the others are left to the loop that reads all.
@@ -46,19 +152,16 @@ pub(crate) fn skim(s: &[u8], from: usize, index: usize, cores: usize, count: Fie
     let mut skip = cores;
     let mut fields = count;
     while 0 < skip {
-        let r = records::read_short(s, at);
-        if (MAX_CORE <= place) | !is_skimmed(r.size, r.kind) {
-            return Skimmed {
-                at,
-                place,
-                skip,
-                fields,
-            };
+        let next = skip_pairs(s, at, place, skip, fields);
+        let r = records::read_short(s, next.at);
+        if (MAX_CORE <= next.place) | !is_skimmed(r.size, r.kind) {
+            return next;
         }
-        fields = cores::widen(fields, r.kind, r.field, place);
+        let most = next.fields;
+        fields = cores::widen(most, r.kind, r.field, next.place);
         skip = skip - 1 + expr::form::arity(r.kind);
-        at += r.size;
-        place += 1;
+        at = next.at + r.size;
+        place = next.place + 1;
     }
     Skimmed {
         at,
