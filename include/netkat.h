@@ -7,8 +7,8 @@
  * has, and nobody writes the bytes that a call reads.
  *
  * What the caller owes: the elements are there, as many as the length says, and aligned; `work`, `out` and `records` overlap neither each
- * other nor another slice of the same call. `term` and `replacement` may overlap, and so may `a` and `b`. A pointer may be NULL if its
- * length is 0 (tested).
+ * other nor another slice of the same call. Slices that are only read may overlap each other. A pointer may be NULL if its length is 0
+ * (tested).
  *
  * A term is walked with recursion, at most 256 levels deep: "Stack" below says how many bytes that takes. A core can be as deep as it has
  * records, and is read without recursion. The archive is for x86-64, needs memset of the C library alone, and is linked by
@@ -28,7 +28,7 @@ extern "C" {
 
 /* The version of this header. The pkg-config file takes it from here, and a test compares netkat_version with it. */
 #define NETKAT_VERSION_MAJOR 0
-#define NETKAT_VERSION_MINOR 4
+#define NETKAT_VERSION_MINOR 5
 #define NETKAT_VERSION_PATCH 0
 #define NETKAT_VERSION (NETKAT_VERSION_MAJOR * 65536 + NETKAT_VERSION_MINOR * 256 + NETKAT_VERSION_PATCH)
 
@@ -66,6 +66,9 @@ uint32_t netkat_version(void);
 #define NETKAT_MAX_CORE_RECORDS 65535
 #define NETKAT_RECORDS_LEN(records) ((size_t)3 * (size_t)(records))
 
+/* Run packets: the most packets of a call; with more, or with none, it is refused by 49. The record list is as for Read core. */
+#define NETKAT_MAX_PACKETS 64
+
 /* Stack: bytes below its caller's frame that are enough for a function, whatever its input. In a thread add what the C library keeps on
  * its stack, for which PTHREAD_STACK_MIN was enough (glibc), thread-local variables, the frames above the call and those of signal
  * handlers. Measured, not proved: tests/stack.c looks for the worst terms of 256 levels, and cores of 65,535 records, on x86-64, and then
@@ -78,8 +81,9 @@ uint32_t netkat_version(void);
 #define NETKAT_STACK_COMPUTE_SUBRANGE 4096   /* 48 measured */
 #define NETKAT_STACK_COST 4096               /* 352 measured */
 #define NETKAT_STACK_READ_CORE 4096          /* 248 measured */
+#define NETKAT_STACK_RUN_PACKETS 16384       /* to be measured */
 
-/* The numbers of refusals. 43 to 54 are kept for functions to come. */
+/* The numbers of refusals. 43 to 47 and 51 to 54 are kept for functions to come. */
 enum netkat_refusal {
     NETKAT_OK = 0,
     /* the term's form; 1 to 5 and 8 also that of a core, 1 and 5 that of a pattern that is lent to netkat_cost */
@@ -124,8 +128,12 @@ enum netkat_refusal {
     NETKAT_REFUSAL_REPLACEMENT_TOO_DEEP = 37,
     NETKAT_REFUSAL_REPLACEMENT_LEFT_OVER = 38,
     /* the form of a core, besides 1 to 5 and 8 */
-    NETKAT_REFUSAL_TERM_KIND = 41,     /* a kind from 16 to 26, which only a term has */
-    NETKAT_REFUSAL_CORE_TOO_LARGE = 42 /* more than 65,535 records */
+    NETKAT_REFUSAL_TERM_KIND = 41,      /* a kind from 16 to 26, which only a term has */
+    NETKAT_REFUSAL_CORE_TOO_LARGE = 42, /* more than 65,535 records */
+    /* packets that are run through a core */
+    NETKAT_REFUSAL_CORE_NOT_TEST = 48,   /* the core has a record that is not Zero, One, Test or one of the kinds 7 to 11 */
+    NETKAT_REFUSAL_PACKET_COUNT = 49,    /* no packet, or more than 64 */
+    NETKAT_REFUSAL_PACKET_TOO_SHORT = 50 /* a packet has fewer bits than the field count of the core */
 };
 
 /* The kinds of records; FORMAT.md says what each has and means. 0 to 15 are those of a core. A VAR_ASSIGN, VAR_TEST or VAR_MATCH uses an
@@ -177,13 +185,14 @@ enum netkat_map {
 
 /* Success: number 0, place 0, and the operation's values in first and second, 0 where it has none.
  * A refusal: its number and its place; first and second are 0. The place is the index of a record of the term or core, from 0 in written
- * order:
- *   1 to 7, 41, 42    the record being read
- *   8                 the number of records, as the bytes left over stand behind the last one
- *   11 to 24          the record that breaks the rule, or whose draw goes beyond the allowance
- *   25                the Assign or Test
- *   31 to 38          as 1 to 8, counted in the replacement
- *   9, 10, 26 to 28   0
+ * order, or of a packet:
+ *   1 to 7, 41, 42            the record being read
+ *   8                         the number of records, as the bytes left over stand behind the last one
+ *   11 to 24                  the record that breaks the rule, or whose draw goes beyond the allowance
+ *   25                        the Assign or Test
+ *   31 to 38                  as 1 to 8, counted in the replacement
+ *   50                        the packet, from 0 in the order of the lengths
+ *   9, 10, 26 to 28, 48, 49   0
  * Of netkat_cost, which is lent no term, it is 0 whatever the number.
  * Where refusals of several groups apply, that of the group which a function names first is answered. Rules and draws are judged in walking
  * order: a record's children from left to right, then the record itself. */
@@ -254,6 +263,22 @@ netkat_answer netkat_cost(uint32_t start, uint32_t end, uint32_t pattern, uint32
  * fewer than three numbers for each record.
  * On a refusal every number of records is kept, on success every number behind those of the core. */
 netkat_answer netkat_read_core(const uint8_t *core, size_t core_len, uint32_t *records, size_t records_len);
+
+/* Runs packets through a core that is a test, one with the kinds 0, 1 and 6 to 11 alone, and reads its records once for all of them. The
+ * answer has a bit for each packet, bit 0 for the first: 1 if the packet passes, that is if the core relates it to itself. The bits of
+ * packets that are not there are 0. first is the low half of these 64 bits, second the high half, and NETKAT_PASSED puts them together.
+ * The packets lie end to end in packets, and lengths has the length of each in bytes, so that a packet begins at the sum of the lengths
+ * before it, which may be beyond 32 bits. A packet has 8 bits for each of its bytes that packets holds: one that goes beyond the end is cut
+ * there, one that begins beyond it is empty. Field f is bit f % 8 of the packet's byte f / 8, bit 0 the lowest. A packet may have more
+ * bits than the field count of the core: the answer depends on none of them, nor on bytes behind the last packet.
+ * 1 to 5, 8, 41, 42, 25 and 10, as netkat_read_core refuses the core and the list. Then 48 if the core is not a test; 49 if there is no
+ * packet or more than 64; 50 at the first packet that has fewer bits than the field count.
+ * Of records only the length counts: the answer does not depend on its numbers, and nothing is promised of them after the call, whether it
+ * was refused or not. */
+netkat_answer netkat_run_packets(const uint8_t *core, size_t core_len, uint32_t *records, size_t records_len, const uint8_t *packets,
+                                 size_t packets_len, const uint32_t *lengths, size_t lengths_len);
+/* The bits that netkat_run_packets answered; 0 if it refused, which number says. The argument is evaluated twice. */
+#define NETKAT_PASSED(answer) ((uint64_t)(answer).second << 32 | (answer).first)
 
 #ifdef __cplusplus
 }

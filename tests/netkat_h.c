@@ -52,6 +52,15 @@ static void nulls(void) {
     expect("read core, NULL records", netkat_read_core(zero, 1, NULL, 0), NETKAT_REFUSAL_WORK_MEMORY, 0, 0, 0);
     expect("read core, NULL records and a kind", netkat_read_core(var, 2, NULL, 0), NETKAT_REFUSAL_TERM_KIND, 0, 0, 0);
     expect("read core, NULL alone", netkat_read_core(NULL, 0, NULL, 0), NETKAT_REFUSAL_ENDS_EARLY, 0, 0, 0);
+
+    const uint8_t one[] = {1, NETKAT_KIND_ONE}, test[] = {1, NETKAT_KIND_TEST};
+    const uint32_t none[] = {0}, eight[] = {8};
+    expect("run, NULL core", netkat_run_packets(NULL, 0, work, 3, out, 1, eight, 1), NETKAT_REFUSAL_ENDS_EARLY, 0, 0, 0);
+    expect("run, NULL records", netkat_run_packets(one, 2, NULL, 0, out, 1, eight, 1), NETKAT_REFUSAL_WORK_MEMORY, 0, 0, 0);
+    expect("run, NULL packets", netkat_run_packets(one, 2, work, 3, NULL, 0, none, 1), 0, 0, 1, 0);
+    expect("run, NULL packets, field", netkat_run_packets(test, 2, work, 3, NULL, 0, eight, 1), NETKAT_REFUSAL_PACKET_TOO_SHORT, 0, 0, 0);
+    expect("run, NULL lengths", netkat_run_packets(one, 2, work, 3, out, 1, NULL, 0), NETKAT_REFUSAL_PACKET_COUNT, 0, 0, 0);
+    expect("run, NULL alone", netkat_run_packets(NULL, 0, NULL, 0, NULL, 0, NULL, 0), NETKAT_REFUSAL_ENDS_EARLY, 0, 0, 0);
 }
 
 /* `levels` levels of Ifs above matches of NETKAT_RECORD_MAX bytes, to at; the end. */
@@ -400,6 +409,171 @@ static void cores_read(void) {
     deep_cores();
 }
 
+/* Packets with the answer, or with the refusal. `room` are the numbers of the record list. */
+#define FIRST "\x21\x06\x01"            /* field 0 is 1 */
+#define SECOND "\x25\x06\x01\0\0\0\x01" /* field 1 is 1 */
+#define THIRD "\x05\x06\x02\0\0\0"      /* field 2 is 0 */
+#define NINTH "\x25\x06\x08\0\0\0\x01"  /* field 8 is 1 */
+#define EACH "\0\x01\x02\x03\x04\x05\x06\x07" /* each value of the fields 0 to 2 */
+#define ONE_BYTE {1, 1, 1, 1, 1, 1, 1, 1}
+#define RUN_REFUSED(number, place) 0, NETKAT_REFUSAL_##number, place
+static const struct {
+    const char *what, *core;
+    size_t len, room;
+    const char *packets;
+    size_t packets_len, count;
+    uint32_t lengths[8];
+    uint64_t passed;
+    uint32_t number, place;
+} runs[] = {
+    {"Zero", CORE("\0"), 3, CORE(EACH), 8, ONE_BYTE, 0, 0, 0},
+    {"One", CORE("\x01\x01"), 3, CORE(EACH), 8, ONE_BYTE, 0xff, 0, 0},
+    {"One, packets without a byte", CORE("\x01\x01"), 3, CORE(""), 5, {0}, 0x1f, 0, 0},
+    {"field 0 is 1", CORE(FIRST), 3, CORE(EACH), 8, ONE_BYTE, 0xaa, 0, 0},
+    {"field 0 is 0", CORE("\x01\x06"), 3, CORE(EACH), 8, ONE_BYTE, 0x55, 0, 0},
+    {"field 2 is 0", CORE(THIRD), 3, CORE(EACH), 8, ONE_BYTE, 0x0f, 0, 0},
+    {"Union", CORE("\x01\x07" FIRST SECOND), 9, CORE(EACH), 8, ONE_BYTE, 0xee, 0, 0},
+    {"Intersect", CORE("\x01\x08" FIRST SECOND), 9, CORE(EACH), 8, ONE_BYTE, 0x88, 0, 0},
+    {"Xor", CORE("\x01\x09" FIRST SECOND), 9, CORE(EACH), 8, ONE_BYTE, 0x66, 0, 0},
+    {"Difference", CORE("\x01\x0a" FIRST SECOND), 9, CORE(EACH), 8, ONE_BYTE, 0x22, 0, 0},
+    {"Difference, the other way round", CORE("\x01\x0a" SECOND FIRST), 9, CORE(EACH), 8, ONE_BYTE, 0x44, 0, 0},
+    {"Sequence", CORE("\x01\x0b" FIRST SECOND), 9, CORE(EACH), 8, ONE_BYTE, 0x88, 0, 0},
+    {"left Difference", CORE("\x01\x0a\x01\x0a" FIRST SECOND THIRD), 15, CORE(EACH), 8, ONE_BYTE, 0x20, 0, 0},
+    {"right Difference", CORE("\x01\x0a" FIRST "\x01\x0a" SECOND THIRD), 15, CORE(EACH), 8, ONE_BYTE, 0x2a, 0, 0},
+    {"all kinds", CORE("\x01\x07\x01\x09" FIRST "\x01\x01\x01\x0b\x01\x08" SECOND THIRD "\x01\x0a\x01\x01\0"), 33, CORE(EACH), 8,
+     ONE_BYTE, 0x5d, 0, 0},
+    {"a longer list", CORE(FIRST), 99, CORE(EACH), 8, ONE_BYTE, 0xaa, 0, 0},
+    {"the highest bit of a byte", CORE("\x25\x06\x07\0\0\0\x01"), 3, CORE("\x80\x7f\xff"), 3, {1, 1, 1}, 5, 0, 0},
+    {"the lowest bit of the second byte", CORE(NINTH), 3, CORE("\xff\0\0\x01\xff\xfe"), 3, {2, 2, 2}, 2, 0, 0},
+    {"packets of several lengths", CORE(NINTH), 3, CORE("\0\x01\xff\0\0\xff\xff\xff\0\x01\xff"), 4, {2, 3, 4, 2}, 0xd, 0, 0},
+    {"bytes behind the last packet", CORE(FIRST), 3, CORE("\x01\0\xff\xff"), 2, {1, 1}, 1, 0, 0},
+    {"no field, past the end", CORE("\x01\x01"), 3, CORE("\0"), 3, {1, 7, UINT32_MAX}, 7, 0, 0},
+    {"cut at the end", CORE(FIRST), 3, CORE("\x01\0\x01"), 2, {2, 2}, 3, 0, 0},
+    {"cut at the end, by far", CORE(FIRST), 3, CORE("\x01"), 1, {UINT32_MAX}, 1, 0, 0},
+
+    {"no byte of a core", CORE(""), 9, CORE(EACH), 8, ONE_BYTE, RUN_REFUSED(ENDS_EARLY, 0)},
+    {"a core that is cut off", CORE("\x01\x07" FIRST), 9, CORE(EACH), 0, {0}, RUN_REFUSED(ENDS_EARLY, 2)},
+    {"kind 27", CORE("\x01\x1b"), 9, CORE(EACH), 0, {0}, RUN_REFUSED(UNKNOWN_KIND, 0)},
+    {"a foreign field", CORE("\x02"), 9, CORE(EACH), 0, {0}, RUN_REFUSED(FOREIGN_FIELD, 0)},
+    {"a kind 0 written", CORE("\x01\0"), 9, CORE(EACH), 0, {0}, RUN_REFUSED(ZERO_WRITTEN, 0)},
+    {"a value of 2", CORE("\x21\x06\x02"), 9, CORE(EACH), 0, {0}, RUN_REFUSED(OUT_OF_RANGE, 0)},
+    {"bytes left over", CORE("\x01\x02\0"), 9, CORE(EACH), 0, {0}, RUN_REFUSED(LEFT_OVER, 1)},
+    {"a kind of terms, behind a Star", CORE("\x01\x0e\x01\x10"), 0, CORE(EACH), 0, {0}, RUN_REFUSED(TERM_KIND, 1)},
+    {"the last field", CORE("\x01\x07" FIRST "\x05\x05" TOP_FIELD), 0, CORE(EACH), 0, {0}, RUN_REFUSED(FIELD_COUNT, 2)},
+    {"a list of 2 for 1", CORE("\x01\x01"), 2, CORE(EACH), 8, ONE_BYTE, RUN_REFUSED(WORK_MEMORY, 0)},
+    {"a list of 2 for 1, before no test", CORE("\x01\x02"), 2, CORE(EACH), 0, {0}, RUN_REFUSED(WORK_MEMORY, 0)},
+    {"Top", CORE("\x01\x02"), 3, CORE(EACH), 8, ONE_BYTE, RUN_REFUSED(CORE_NOT_TEST, 0)},
+    {"Dup", CORE("\x01\x03"), 3, CORE(EACH), 8, ONE_BYTE, RUN_REFUSED(CORE_NOT_TEST, 0)},
+    {"End", CORE("\x01\x04"), 3, CORE(EACH), 8, ONE_BYTE, RUN_REFUSED(CORE_NOT_TEST, 0)},
+    {"Assign, the last record", CORE("\x01\x0b" FIRST "\x01\x05"), 9, CORE(EACH), 8, ONE_BYTE, RUN_REFUSED(CORE_NOT_TEST, 0)},
+    {"LtlUntil", CORE("\x01\x0c\0\0"), 9, CORE(EACH), 8, ONE_BYTE, RUN_REFUSED(CORE_NOT_TEST, 0)},
+    {"Complement", CORE("\x01\x0d" FIRST), 9, CORE(EACH), 8, ONE_BYTE, RUN_REFUSED(CORE_NOT_TEST, 0)},
+    {"Star, of One", CORE("\x01\x0e\x01\x01"), 9, CORE(EACH), 8, ONE_BYTE, RUN_REFUSED(CORE_NOT_TEST, 0)},
+    {"LtlNext", CORE("\x01\x0f" FIRST), 9, CORE(EACH), 8, ONE_BYTE, RUN_REFUSED(CORE_NOT_TEST, 0)},
+    {"no test, before no packet", CORE("\x01\x05"), 3, CORE(EACH), 0, {0}, RUN_REFUSED(CORE_NOT_TEST, 0)},
+    {"no test, before a short packet", CORE("\x01\x05"), 3, CORE(""), 1, {0}, RUN_REFUSED(CORE_NOT_TEST, 0)},
+    {"no packet", CORE("\0"), 3, CORE(EACH), 0, {0}, RUN_REFUSED(PACKET_COUNT, 0)},
+    {"no byte for field 0", CORE(FIRST), 3, CORE(""), 1, {0}, RUN_REFUSED(PACKET_TOO_SHORT, 0)},
+    {"8 bits for 9 fields", CORE(NINTH), 3, CORE(EACH), 4, {2, 2, 1, 3}, RUN_REFUSED(PACKET_TOO_SHORT, 2)},
+    {"the first of two", CORE(NINTH), 3, CORE(EACH), 4, {2, 0, 2, 1}, RUN_REFUSED(PACKET_TOO_SHORT, 1)},
+    {"a byte past the end", CORE(NINTH), 3, CORE(EACH), 4, {2, 2, 3, 2}, RUN_REFUSED(PACKET_TOO_SHORT, 3)},
+    {"a packet past the end", CORE(FIRST), 3, CORE("\0\x01"), 4, {1, 1, 1, 1}, RUN_REFUSED(PACKET_TOO_SHORT, 2)},
+    {"a sum of 32 bits", CORE(FIRST), 3, CORE(EACH), 3, {UINT32_MAX, 1, 1}, RUN_REFUSED(PACKET_TOO_SHORT, 1)},
+    {"a sum beyond 32 bits", CORE(FIRST), 3, CORE(EACH), 4, {0x80000000, 0x80000000, 1, 1}, RUN_REFUSED(PACKET_TOO_SHORT, 1)},
+    {"a field beyond the bytes", CORE("\x05\x06\xfe\xff\xff\xff"), 3, CORE(EACH), 1, {UINT32_MAX}, RUN_REFUSED(PACKET_TOO_SHORT, 0)},
+};
+
+/* Run packets with a list of so many numbers, which it may write; what lies around the list is kept, and so is what it only reads. */
+static netkat_answer run_packets(const char *what, const uint8_t *core, size_t len, size_t room, const uint8_t *packets, size_t packets_len,
+                                 const uint32_t *lengths, size_t count) {
+    static uint8_t bytes[2][NETKAT_TERM_MAX];
+    static uint32_t numbers[2 * NETKAT_MAX_PACKETS];
+    memset(list, 0xa5, sizeof list);
+    memcpy(bytes[0], core, len);
+    memcpy(bytes[1], packets, packets_len);
+    if (count) memcpy(numbers, lengths, count * sizeof *numbers);
+    netkat_answer a = netkat_run_packets(bytes[0], len, read_records, room, bytes[1], packets_len, numbers, count);
+    size_t kept = list[0] == 0xa5a5a5a5, all = sizeof list / sizeof *list;
+    for (size_t i = 1 + room; i < all; i++) kept += list[i] == 0xa5a5a5a5;
+    if (kept != all - room) printf("%s: numbers around the list are changed\n", what), failed = 1;
+    same(what, bytes[0], core, len);
+    same(what, bytes[1], packets, packets_len);
+    if (count && memcmp(numbers, lengths, count * sizeof *numbers) != 0) printf("%s: lengths are changed\n", what), failed = 1;
+    return a;
+}
+
+/* 1 to 64 packets of a byte each, whose fields 0 to 7 are their number: the bits are those of the packets, and no others. */
+static void counts_of_packets(void) {
+    uint8_t packets[NETKAT_MAX_PACKETS + 1];
+    uint32_t lengths[NETKAT_MAX_PACKETS + 1];
+    for (uint8_t i = 0; i <= NETKAT_MAX_PACKETS; i++) packets[i] = i, lengths[i] = 1;
+    for (size_t n = 1; n <= NETKAT_MAX_PACKETS; n++) {
+        uint64_t all = UINT64_MAX >> (NETKAT_MAX_PACKETS - n), odd = all & 0xaaaaaaaaaaaaaaaa;
+        netkat_answer a = run_packets("n packets", (const uint8_t *)CORE(FIRST), 3, packets, n, lengths, n);
+        if (a.number || NETKAT_PASSED(a) != odd) printf("%zu packets, odd: %u\n", n, a.number), failed = 1;
+        a = run_packets("n packets", (const uint8_t *)CORE("\x01\x06"), 3, packets, n, lengths, n);
+        if (a.number || NETKAT_PASSED(a) != (all ^ odd)) printf("%zu packets, even: %u\n", n, a.number), failed = 1;
+        a = run_packets("n packets", (const uint8_t *)CORE("\x01\x01"), 3, packets, n, lengths, n);
+        expect("all packets", a, 0, 0, (uint32_t)all, (uint32_t)(all >> 32));
+    }
+    const uint8_t *one = (const uint8_t *)"\x01\x01", *dup = (const uint8_t *)"\x01\x03", *first = (const uint8_t *)FIRST;
+    expect("65 packets", run_packets("65", one, 2, 3, packets, 65, lengths, 65), NETKAT_REFUSAL_PACKET_COUNT, 0, 0, 0);
+    expect("65, a list of 2", run_packets("65", one, 2, 2, packets, 65, lengths, 65), NETKAT_REFUSAL_WORK_MEMORY, 0, 0, 0);
+    expect("65, no test", run_packets("65", dup, 2, 3, packets, 65, lengths, 65), NETKAT_REFUSAL_CORE_NOT_TEST, 0, 0, 0);
+    expect("65, short", run_packets("65", first, 3, 3, packets, 0, lengths, 65), NETKAT_REFUSAL_PACKET_COUNT, 0, 0, 0);
+    expect("last short", run_packets("last", first, 3, 3, packets, 63, lengths, 64), NETKAT_REFUSAL_PACKET_TOO_SHORT, 63, 0, 0);
+}
+
+/* So many Differences above leaves that are all the same, to the left or to the right. */
+static netkat_answer run_differences(int left, int count, const char *leaf, size_t leaf_len, size_t room) {
+    static uint8_t core[NETKAT_TERM_MAX];
+    const uint32_t lengths[] = {1, 1};
+    uint8_t *at = core;
+    for (int i = 0; i < 2 * count + 1; i++)
+        if (left ? i < count : i % 2 == 0 && i < 2 * count) *at++ = NETKAT_MAP_KIND, *at++ = NETKAT_KIND_DIFFERENCE;
+        else memcpy(at, leaf, leaf_len), at += leaf_len;
+    return run_packets("differences", core, (size_t)(at - core), room, (const uint8_t *)"\0\x01", 2, lengths, 2);
+}
+
+/* As deep as a core can be. One - One - .. is Zero; One - (One - ..) is Zero of an even number of Ones, One of an odd number. */
+static void deep_tests(void) {
+    const int most = (NETKAT_MAX_CORE_RECORDS - 1) / 2;
+    const size_t room = NETKAT_RECORDS_LEN(NETKAT_MAX_CORE_RECORDS);
+    expect("deep to the left", run_differences(1, most, CORE("\x01\x01"), room), 0, 0, 0, 0);
+    expect("deep to the right, even", run_differences(0, most, CORE("\x01\x01"), room), 0, 0, 0, 0);
+    expect("deep to the right, odd", run_differences(0, most - 1, CORE("\x01\x01"), room), 0, 0, 3, 0);
+    expect("deep to the right, tests", run_differences(0, most - 1, CORE(FIRST), room), 0, 0, 2, 0);
+    expect("deep, a list one less", run_differences(0, most, CORE(FIRST), room - 1), NETKAT_REFUSAL_WORK_MEMORY, 0, 0, 0);
+    expect("deep, no test", run_differences(0, most, CORE("\x01\x05"), room), NETKAT_REFUSAL_CORE_NOT_TEST, 0, 0, 0);
+    expect("deeper", run_differences(1, most + 1, CORE("\0"), room), NETKAT_REFUSAL_CORE_TOO_LARGE, 65535, 0, 0);
+}
+
+/* The core of x[0..16] from 1,024 to 49,151, and the packets of these numbers and their neighbours. */
+static void desugared_range(void) {
+    const uint8_t range[] = {0xd9, NETKAT_KIND_BIT_RANGE_MATCH, 16, 0, 0, 0, NETKAT_PATTERN_IP_RANGE, 16, 0, 4, 16, 0xff, 0xbf};
+    const uint16_t ports[] = {1023, 1024, 1025, 49150, 49151, 49152, 0, 65535};
+    uint8_t packets[16];
+    uint32_t lengths[8];
+    for (size_t i = 0; i < 8; i++) packets[2 * i] = ports[i] & 255, packets[2 * i + 1] = ports[i] >> 8, lengths[i] = 2;
+    netkat_answer made = desugar(range, sizeof range, 1000, NETKAT_WORK_LEN(1000), NETKAT_CORE_MAX(1000));
+    expect("ports", run_packets("ports", core_out, made.first, NETKAT_RECORDS_LEN(made.second), packets, 16, lengths, 8), 0, 0, 0x1e, 0);
+}
+
+static void packets_run(void) {
+    for (size_t i = 0; i < sizeof runs / sizeof *runs; i++) {
+        netkat_answer a = run_packets(runs[i].what, (const uint8_t *)runs[i].core, runs[i].len, runs[i].room,
+                                      (const uint8_t *)runs[i].packets, runs[i].packets_len, runs[i].lengths, runs[i].count);
+        expect(runs[i].what, a, runs[i].number, runs[i].place, (uint32_t)runs[i].passed, (uint32_t)(runs[i].passed >> 32));
+    }
+    /* one slice for the core and the packets: 21 has field 0, 06 has not, 01 has */
+    const uint8_t shared[] = {0x21, NETKAT_KIND_TEST, 1};
+    const uint32_t lengths[] = {1, 1, 1};
+    expect("run, overlap", netkat_run_packets(shared, 3, list, 3, shared, 3, lengths, 3), 0, 0, 5, 0);
+    counts_of_packets();
+    deep_tests();
+    desugared_range();
+}
+
 /* The limits: a term of NETKAT_TERM_MAX bytes and 4,096 records, 256 levels, the greatest allowance with its work memory and room. */
 static void limits(void) {
     static uint8_t term[NETKAT_TERM_MAX + 1], result[NETKAT_TERM_MAX];
@@ -491,6 +665,7 @@ int main(void) {
     limits();
     cost();
     cores_read();
+    packets_run();
     if (netkat_version() != NETKAT_VERSION) printf("version %u, expected %u\n", netkat_version(), (unsigned)NETKAT_VERSION), failed = 1;
 
     if (!failed) puts("netkat.h: all answers as expected");

@@ -6,9 +6,10 @@
  *
  * Measured over terms of 256 levels: a chain of each kind through each of its children above each of a list of small bottoms; chains of
  * random kinds with random siblings; for Substitute also deep replacements at variables of several levels. Cost, which is lent no term, is
- * measured over the matches among the bottoms; Read core over chains of each kind of a core, of 65,535 records. A thread gets a stack that
- * was filled with a pattern; the lowest byte that is not the pattern any more shows how deep it went. It counts from the frame of `run`,
- * which calls the library: the thread's own frames, and what the C library keeps above them, are left out, some 100 bytes of `run` are in.
+ * measured over the matches among the bottoms; Read core over chains of each kind of a core, of 65,535 records; Run packets over these and
+ * over chains of tests of 1,024 fields, with 64 packets. A thread gets a stack that was filled with a pattern; the lowest byte that is not
+ * the pattern any more shows how deep it went. It counts from the frame of `run`, which calls the library: the thread's own frames, and
+ * what the C library keeps above them, are left out, some 100 bytes of `run` are in.
  *
  * A run on a promised stack is made in a thread too, whose stack ends at a page without access. Before it calls `run` it takes up (alloca)
  * all but the promised bytes, so that neither PTHREAD_STACK_MIN nor what lies above the call plays a part. Each run is a process of its
@@ -30,7 +31,7 @@
 #define STACK ((size_t)2 << 20)
 #define RANDOM_TERMS 1000
 
-enum function { CHECK, DESUGAR, SUBSTITUTE, FRAGMENT, FIELDS, SUBRANGE, COST, READ_CORE, FUNCTIONS };
+enum function { CHECK, DESUGAR, SUBSTITUTE, FRAGMENT, FIELDS, SUBRANGE, COST, READ_CORE, RUN_PACKETS, FUNCTIONS };
 
 static const struct {
     const char *name, *define;
@@ -44,6 +45,7 @@ static const struct {
     {"netkat_compute_subrange", "NETKAT_STACK_COMPUTE_SUBRANGE", NETKAT_STACK_COMPUTE_SUBRANGE},
     {"netkat_cost", "NETKAT_STACK_COST", NETKAT_STACK_COST},
     {"netkat_read_core", "NETKAT_STACK_READ_CORE", NETKAT_STACK_READ_CORE},
+    {"netkat_run_packets", "NETKAT_STACK_RUN_PACKETS", NETKAT_STACK_RUN_PACKETS},
 };
 
 static const char *kinds[] = {
@@ -158,6 +160,10 @@ struct call {
 static uint32_t work[NETKAT_WORK_LEN(NETKAT_MAX_ALLOWANCE)];
 static uint8_t out[NETKAT_CORE_MAX(NETKAT_MAX_ALLOWANCE)];
 
+#define PACKET_FIELDS 1024
+static uint8_t packets[NETKAT_MAX_PACKETS * PACKET_FIELDS / 8];
+static uint32_t lengths[NETKAT_MAX_PACKETS];
+
 /* Cost of the parts of a record: a match on the fields from 0 to an end that is below 256, as the bottoms have it. */
 static void cost(const uint8_t *record) {
     const uint8_t map = record[0], *at = record + 6;
@@ -180,7 +186,8 @@ static __attribute__((noinline)) void run(struct call *c) {
     case FIELDS: netkat_num_fields(s, n); break;
     case SUBRANGE: netkat_compute_subrange(4, 8, 1, 3); break;
     case COST: cost(s); break;
-    default: netkat_read_core(s, n, work, COUNT(work)); break;
+    case READ_CORE: netkat_read_core(s, n, work, COUNT(work)); break;
+    default: netkat_run_packets(s, n, work, COUNT(work), packets, sizeof packets, lengths, COUNT(lengths)); break;
     }
 }
 
@@ -310,7 +317,8 @@ static void patterns(void) {
         }
 }
 
-/* Read core: chains of so many records as a core may have, above each bottom. Above one that has several records they are too many. */
+/* Read core and Run packets: chains of so many records as a core may have, above each bottom. Above one that has several records they are
+ * too many. */
 static void cores(void) {
     static struct link links[NETKAT_MAX_CORE_RECORDS];
     for (int kind = NETKAT_KIND_UNION; kind <= NETKAT_KIND_LTL_NEXT; kind++)
@@ -321,7 +329,32 @@ static void cores(void) {
                 chain(&term, links, count, bottoms[b].bytes, bottoms[b].len, 0);
                 snprintf(term.shape, sizeof term.shape, "%zu times %s, child %d, above %s", count, kinds[kind], child + 1, bottoms[b].name);
                 measure(READ_CORE, &term, &zero);
+                measure(RUN_PACKETS, &term, &zero);
             }
+}
+
+static void random_packets(void) {
+    for (size_t i = 0; i < sizeof packets; i++) packets[i] = (uint8_t)chance(256);
+    for (size_t i = 0; i < COUNT(lengths); i++) lengths[i] = PACKET_FIELDS / 8;
+}
+
+/* Run packets: chains of tests, which lean to the left or to the right, of each field that the packets have or of the last one alone. */
+static void test_cores(void) {
+    const int count = 16384;
+    for (int kind = NETKAT_KIND_UNION; kind <= NETKAT_KIND_SEQUENCE; kind++)
+        for (int shape = 0; shape < 4; shape++) {
+            term.len = 0;
+            for (int i = 0; shape < 2 && i < count; i++) put_parent(&term, kind, 0);
+            for (int i = 0; i <= count; i++) {
+                int field = shape % 2 ? PACKET_FIELDS - 1 : 1 + i % (PACKET_FIELDS - 1);
+                const uint8_t test[] = {0x25, NETKAT_KIND_TEST, (uint8_t)field, (uint8_t)(field >> 8), 0, 0, 1};
+                if (shape >= 2 && i < count) put_parent(&term, kind, 0);
+                put(&term, test, sizeof test);
+            }
+            snprintf(term.shape, sizeof term.shape, "%d times %s, leaning to the %s, above tests of %s", count, kinds[kind],
+                     shape < 2 ? "left" : "right", shape % 2 ? "one field" : "many fields");
+            measure(RUN_PACKETS, &term, &zero);
+        }
 }
 
 /* Does the call end well on so much stack? With `own` in a thread as a user makes it, with PTHREAD_STACK_MIN more. */
@@ -354,7 +387,9 @@ int main(int argc, char **argv) {
     replacements();
     measure(SUBRANGE, &zero, &zero);
     patterns();
+    random_packets();
     cores();
+    test_cores();
 
     for (int f = 0; f < FUNCTIONS; f++) {
         size_t bytes = worst[f].bytes, promised = functions[f].promised;
