@@ -1,7 +1,8 @@
 /* Compares docs/REFUSALS.md and docs/FORMAT.md with the library, the header and the example, so that the pages cannot drift.
  *
  *   REFUSALS.md   every row of the table: the name has its number, the call is refused by it at that place, and the buffer is kept;
- *                 every number from 1 to 28, 31 to 38, 41 and 42 has one row; so have those of Cost and Read core in their own tables
+ *                 every number from 1 to 28, 31 to 38, 41, 42 and 48 to 50 has one row; so have those of Cost and Read core in their own
+ *                 tables
  *   FORMAT.md     every row of the kinds and patterns: the name has its number, and the library takes just these map bits and children;
  *                 every limit has its value; the bytes of the example are examples/prefix.term and its core; the C code stands in
  *                 examples/c/desugar.c
@@ -75,6 +76,9 @@ static const struct {
     N(NETKAT_REFUSAL_REPLACEMENT_LEFT_OVER),
     N(NETKAT_REFUSAL_TERM_KIND),
     N(NETKAT_REFUSAL_CORE_TOO_LARGE),
+    N(NETKAT_REFUSAL_CORE_NOT_TEST),
+    N(NETKAT_REFUSAL_PACKET_COUNT),
+    N(NETKAT_REFUSAL_PACKET_TOO_SHORT),
     N(NETKAT_KIND_ZERO),
     N(NETKAT_KIND_ONE),
     N(NETKAT_KIND_TOP),
@@ -115,6 +119,7 @@ static const struct {
     N(NETKAT_RECORD_MAX),
     N(NETKAT_TERM_MAX),
     N(NETKAT_MAX_CORE_RECORDS),
+    N(NETKAT_MAX_PACKETS),
 };
 
 /* Does the name, which may stand in backquotes, have the value? */
@@ -214,8 +219,17 @@ static uint32_t work[NETKAT_WORK_LEN(NETKAT_MAX_ALLOWANCE)];
 static uint8_t out[NETKAT_CORE_MAX(NETKAT_MAX_ALLOWANCE)];
 static uint32_t records[64];
 
+/* Run packets. The lengths stand in a list with commas, which is `-` if it is empty. The record list is work memory. */
+static netkat_answer run_packets(const struct bytes *core, size_t room, const struct bytes *packets, char *list) {
+    uint32_t lengths[NETKAT_MAX_PACKETS + 1];
+    size_t count = 0;
+    for (char *at = list; isdigit((unsigned char)*at) && count <= NETKAT_MAX_PACKETS; at += *at == ',')
+        lengths[count++] = (uint32_t)strtoul(at, &at, 10);
+    return netkat_run_packets(core->at, core->len, work, room, packets->at, packets->len, lengths, count);
+}
+
 static netkat_answer call(char *words) {
-    static struct bytes term, replacement, a, b;
+    static struct bytes term, replacement, packets, a, b;
     char *w[9] = {"", "", "", "", "", "", "", "", ""};
     uint32_t n[9];
     int count = 0;
@@ -229,6 +243,10 @@ static netkat_answer call(char *words) {
     }
     read_term(&term, w[1]);
     if (strcmp(w[0], "read") == 0) return netkat_read_core(term.at, term.len, records, n[2]);
+    if (strcmp(w[0], "packets") == 0) {
+        read_term(&packets, w[3]);
+        return run_packets(&term, n[2], &packets, w[4]);
+    }
     if (strcmp(w[0], "check") == 0) return netkat_check(term.at, term.len);
     if (strcmp(w[0], "fields") == 0) return netkat_num_fields(term.at, term.len);
     if (strcmp(w[0], "desugar") == 0) return netkat_desugar(term.at, term.len, n[2], work, n[3], out, n[4]);
@@ -269,7 +287,7 @@ static void calls(const char *page, const char *heading, int named, int at, cons
 
 static void refusals(const char *page) {
     calls(page, "## The table\n", 1, 4,
-          "1 2 3 4 5 6 7 8 9 10 11 12 13 14 15 16 17 18 19 20 21 22 23 24 25 26 27 28 31 32 33 34 35 36 37 38 41 42 ");
+          "1 2 3 4 5 6 7 8 9 10 11 12 13 14 15 16 17 18 19 20 21 22 23 24 25 26 27 28 31 32 33 34 35 36 37 38 41 42 48 49 50 ");
     calls(page, "## Refusals of netkat_cost\n", 0, 2, "1 5 14 15 17 18 19 20 21 ");
     calls(page, "## Refusals of netkat_read_core\n", 0, 2, "1 2 3 4 5 8 10 25 ");
 }
@@ -307,7 +325,7 @@ static void format(const char *page) {
         check_name(cell[2], value);
         rows++;
     }
-    if (rows != 9) WRONG("%d limits", rows);
+    if (rows != 10) WRONG("%d limits", rows);
 
     rows = 0;
     text = section(page, "## Kinds\n");
@@ -366,7 +384,7 @@ static void code(char *page) {
         if (!strstr(program, at)) WRONG("this code is not in examples/c/desugar.c:\n%s", at);
         at = end + 3;
     }
-    if (blocks != 7) WRONG("%d pieces of code", blocks);
+    if (blocks != 8) WRONG("%d pieces of code", blocks);
 }
 
 int main(void) {

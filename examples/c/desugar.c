@@ -1,5 +1,5 @@
-/* An access rule as term bytes, its check, its core, read back from its bytes, what a refusal looks like, a label stack as a literal, and
- * what a range of ports will cost. Needs nothing but an installed libnetkat:
+/* An access rule as term bytes, its check, its core, read back from its bytes, what a refusal looks like, a label stack as a literal, what
+ * a range of ports will cost, and which packets have a port in it. Needs nothing but an installed libnetkat:
  *
  *   cc desugar.c $(pkg-config --cflags --libs netkat) -o desugar && ./desugar
  *
@@ -113,14 +113,15 @@ static const char *const refusals[] = {
     NAME(CONDITION_NOT_TEST), NAME(ALLOWANCE_SPENT), NAME(FIELD_COUNT), NAME(BUFFER_TOO_SHORT), NAME(RESULT_TOO_LARGE),
     NAME(SUBRANGE_OUTSIDE), NAME(REPLACEMENT_ENDS_EARLY), NAME(REPLACEMENT_UNKNOWN_KIND), NAME(REPLACEMENT_FOREIGN_FIELD),
     NAME(REPLACEMENT_ZERO_WRITTEN), NAME(REPLACEMENT_OUT_OF_RANGE), NAME(REPLACEMENT_TOO_MANY_RECORDS), NAME(REPLACEMENT_TOO_DEEP),
-    NAME(REPLACEMENT_LEFT_OVER), NAME(TERM_KIND), NAME(CORE_TOO_LARGE)
+    NAME(REPLACEMENT_LEFT_OVER), NAME(TERM_KIND), NAME(CORE_TOO_LARGE), NAME(CORE_NOT_TEST), NAME(PACKET_COUNT), NAME(PACKET_TOO_SHORT)
 };
 /* clang-format on */
 
 static int refused(netkat_answer a) {
     if (a.number == NETKAT_OK) return 0;
     const char *name = a.number < sizeof refusals / sizeof *refusals ? refusals[a.number] : NULL;
-    printf("  refused by %u, %s, at record %u\n", a.number, name ? name : "a number that this program does not know", a.place);
+    const char *what = a.number == NETKAT_REFUSAL_PACKET_TOO_SHORT ? "packet" : "record";
+    printf("  refused by %u, %s, at %s %u\n", a.number, name ? name : "a number that this program does not know", what, a.place);
     return 1;
 }
 
@@ -174,6 +175,39 @@ static void show_cost(uint16_t from, uint16_t to) {
     printf("  a match draws %" PRIu64 " nodes\n", NETKAT_COST(cost));
 }
 
+/* Prints which packets pass the core, which is that of a test. A packet has its port in the fields 0 to 15: two bytes, the lower one
+ * first. */
+static void run_packets(const uint8_t *core, size_t len, const uint16_t *ports, size_t count) {
+    static uint32_t records[NETKAT_RECORDS_LEN(ALLOWANCE)]; /* as for netkat_read_core; what it holds after the call means nothing */
+    uint8_t packets[2 * NETKAT_MAX_PACKETS];
+    uint32_t lengths[NETKAT_MAX_PACKETS];
+    for (size_t i = 0; i < count; i++) {
+        packets[2 * i] = ports[i] & 255;
+        packets[2 * i + 1] = ports[i] >> 8;
+        lengths[i] = 2;
+    }
+
+    netkat_answer run = netkat_run_packets(core, len, records, NETKAT_RECORDS_LEN(ALLOWANCE), packets, 2 * count, lengths, count);
+    if (refused(run)) return;
+    for (size_t i = 0; i < count; i++) printf("  port %u %s\n", ports[i], NETKAT_PASSED(run) >> i & 1 ? "passes" : "does not pass");
+}
+
+/* Packets that are run through a match with the ports from one to another. */
+static void show_packets(uint16_t from, uint16_t to) {
+    static struct term term;
+    static uint32_t work[NETKAT_WORK_LEN(ALLOWANCE)];
+    static uint8_t core[NETKAT_CORE_MAX(ALLOWANCE)];
+    const uint16_t ports[] = {443, 1024, 8080, 50000};
+    struct record match = {.kind = NETKAT_KIND_BIT_RANGE_MATCH, .end = 16, .pattern = NETKAT_PATTERN_IP_RANGE};
+    match.a = (struct literal){16, {from}};
+    match.b = (struct literal){16, {to}};
+    term.len = 0;
+    put_record(&term, match);
+
+    netkat_answer made = netkat_desugar(term.bytes, term.len, ALLOWANCE, work, NETKAT_WORK_LEN(ALLOWANCE), core, sizeof core);
+    if (!refused(made)) run_packets(core, made.first, ports, sizeof ports / sizeof *ports);
+}
+
 int main(void) {
     static struct term term;
     puts("guests do not reach service 3:");
@@ -188,5 +222,7 @@ int main(void) {
     if (!refused(checked)) printf("  term of %zu bytes: the rules hold\n", term.len);
     puts("the ports from 1024 to 49151, before a rule is written with them:");
     show_cost(1024, 49151);
+    puts("and four packets, which are run through that match together:");
+    show_packets(1024, 49151);
     return 0;
 }
