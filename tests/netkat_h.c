@@ -524,6 +524,32 @@ static void counts_of_packets(void) {
     expect("last short", run_packets("last", first, 3, 3, packets, 63, lengths, 64), NETKAT_REFUSAL_PACKET_TOO_SHORT, 63, 0, 0);
 }
 
+/* One field at a time, with 64 packets: it is 1 where a number has a bit, and all other fields of a packet are the opposite. */
+static void fields_of_packets(void) {
+    enum { BYTES = 200 };
+    static const uint32_t fields[] = {1, 7, 8, 63, 64, 255, 256, 510, 511, 512, 513, 1023, 1024, 1025, 8 * BYTES - 2, 8 * BYTES - 1};
+    static uint8_t packets[NETKAT_MAX_PACKETS * BYTES];
+    uint32_t lengths[NETKAT_MAX_PACKETS];
+    for (size_t n = 0; n < sizeof fields / sizeof *fields; n++) {
+        uint32_t f = fields[n];
+        uint64_t set = 0x9e3779b97f4a7c15u * (f + 1);
+        for (size_t i = 0; i < NETKAT_MAX_PACKETS; i++) {
+            memset(packets + BYTES * i, set >> i & 1 ? 0 : 255, BYTES);
+            packets[BYTES * i + f / 8] ^= (uint8_t)(1u << f % 8);
+            lengths[i] = BYTES;
+        }
+        const uint8_t low = f & 255, high = (uint8_t)(f >> 8); /* field f is 1 and field 0 is not; field 0 is 1 and field f is not */
+        const uint8_t less[] = {1, NETKAT_KIND_DIFFERENCE, 0x25, NETKAT_KIND_TEST, low, high, 0, 0, 1, 0x21, NETKAT_KIND_TEST, 1};
+        const uint8_t more[] = {1, NETKAT_KIND_DIFFERENCE, 0x21, NETKAT_KIND_TEST, 1, 0x25, NETKAT_KIND_TEST, low, high, 0, 0, 1};
+        netkat_answer a = run_packets("a field", less + 2, 7, 3, packets, sizeof packets, lengths, 64);
+        if (a.number || NETKAT_PASSED(a) != set) printf("field %u: %u\n", f, a.number), failed = 1;
+        a = run_packets("a field", less, sizeof less, 9, packets, sizeof packets, lengths, 64);
+        if (a.number || NETKAT_PASSED(a) != set) printf("field %u and not field 0: %u\n", f, a.number), failed = 1;
+        a = run_packets("a field", more, sizeof more, 9, packets, sizeof packets, lengths, 64);
+        if (a.number || NETKAT_PASSED(a) != ~set) printf("field 0 and not field %u: %u\n", f, a.number), failed = 1;
+    }
+}
+
 /* So many Differences above leaves that are all the same, to the left or to the right. */
 static netkat_answer run_differences(int left, int count, const char *leaf, size_t leaf_len, size_t room) {
     static uint8_t core[NETKAT_TERM_MAX];
@@ -570,6 +596,7 @@ static void packets_run(void) {
     const uint32_t lengths[] = {1, 1, 1};
     expect("run, overlap", netkat_run_packets(shared, 3, list, 3, shared, 3, lengths, 3), 0, 0, 5, 0);
     counts_of_packets();
+    fields_of_packets();
     deep_tests();
     desugared_range();
 }
