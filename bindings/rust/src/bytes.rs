@@ -1,4 +1,4 @@
-//! The operations on terms and cores that are bytes already.
+//! The operations on terms, cores and packets that are bytes already.
 //!
 //! Each answers as the function of `include/netkat.h` that has its name behind `netkat_`; buffers and work memory are allocated
 //! here.
@@ -91,4 +91,25 @@ pub fn read_core(core: &[u8]) -> Result<CoreRecords, Refusal> {
         let records = slots::slots_of_records(numbers).map(|slot| CoreRecord::of(&slot)).collect();
         Ok(CoreRecords { records, num_fields })
     })
+}
+
+/// Which of 1 to 64 packets pass a core that is a test, for captures that lie in one piece of memory; for others see
+/// [`Core::run`](crate::Core::run) and [`Core::run_all`](crate::Core::run_all). Bit i of the number is that of packet i. The packets lie end to
+/// end, and `lengths` has the length of each in bytes. A packet that goes beyond the end of the slice is cut there, one that begins beyond
+/// it is empty; bytes behind the last packet are not looked at.
+///
+/// ```
+/// use netkat::bytes;
+///
+/// let field_8_is_set = [0x25, 6, 8, 0, 0, 0, 1];
+/// let packets = [0, 1, 255, 0, 0, 255, 255, 255];
+/// assert_eq!(bytes::run_packets(&field_8_is_set, &packets, &[2, 2, 4]), Ok(0b101));
+/// assert_eq!(bytes::run_packets(&field_8_is_set, &packets[..5], &[2, 2, 4]).unwrap_err().number, 50);
+/// ```
+///
+/// Refused as [`Core::from_bytes`](crate::Core::from_bytes) is, then by 48 for a core that is not a test, by 49 for no packet or more than
+/// [`MAX_PACKETS`](crate::limits::MAX_PACKETS), and by 50 at the first packet that has fewer bits than the field count; the place of 50 is the
+/// packet's index.
+pub fn run_packets(core: &[u8], packets: &[u8], lengths: &[u32]) -> Result<u64, Refusal> {
+    desugarer::with_kept(|desugarer| desugarer.run_packets(core, packets, lengths))
 }

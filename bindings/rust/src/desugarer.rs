@@ -17,13 +17,12 @@ pub(crate) fn with_kept<T>(mut call: impl FnMut(&mut Desugarer) -> T) -> T {
     kept.ok().flatten().unwrap_or_else(|| call(&mut Desugarer::new()))
 }
 
-/// Frees the memory that [`desugar()`], [`desugar_to_expr`], [`Core::from_bytes`], [`bytes::desugar`](crate::bytes::desugar) and
-/// [`bytes::read_core`](crate::bytes::read_core) keep for this thread. The next call allocates it anew; a thread that ends frees it by
-/// itself.
+/// Frees the memory that [`desugar()`], [`desugar_to_expr`], [`Core::from_bytes`], [`Core::run`] and, in [`bytes`](crate::bytes), `desugar`,
+/// `read_core` and `run_packets` keep for this thread. The next call allocates it anew; a thread that ends frees it by itself.
 ///
 /// It is lent to the library without being cleared, so that pages which no policy needed take no memory: on Linux 4 to
-/// 8 KiB are resident after a policy of some nodes, some 70 KiB after one of 3,500, 0.7 to 0.8 MB after one of 43,000. To read a core takes
-/// 12 bytes for each of its nodes, in the same memory.
+/// 8 KiB are resident after a policy of some nodes, some 70 KiB after one of 3,500, 0.7 to 0.8 MB after one of 43,000. To read a core, or
+/// to run packets through it, takes 12 bytes for each of its nodes, in the same memory.
 ///
 /// ```
 /// use netkat::{desugar, release_memory, Expr};
@@ -199,6 +198,11 @@ impl Desugarer {
     /// The records of a core in bytes, three numbers each, and its field count. The allowance has no part in it.
     pub(crate) fn read_core(&mut self, core: &[u8]) -> Result<(&[u32], u32), Refusal> {
         self.memory.read_core(core)
+    }
+
+    /// Which packets pass a core in bytes, a bit for each. The allowance has no part in it.
+    pub(crate) fn run_packets(&mut self, core: &[u8], packets: &[u8], lengths: &[u32]) -> Result<u64, Refusal> {
+        self.memory.run_packets(core, packets, lengths)
     }
 }
 

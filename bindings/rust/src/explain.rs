@@ -19,9 +19,9 @@ impl Refusal {
     /// What is refused and why, in sentences for the policy's author: the names, the widths and the values that do not go together, then the
     /// part of the policy at the refusal's place, shortened.
     ///
-    /// `policy` is the one that was refused; for 31 to 38, give the replacement. It is shown as by [`Expr::display`]. An allowance that was
-    /// spent (24) can hide a rule that is broken further on: the policy is checked, and the text says the broken rule too, or how large an
-    /// allowance is enough.
+    /// `policy` is the one that was refused; for 31 to 38, give the replacement; for 48 the policy whose core it was, or that core as an
+    /// expression. It is shown as by [`Expr::display`]. An allowance that was spent (24) can hide a rule that is broken further on: the
+    /// policy is checked, and the text says the broken rule too, or how large an allowance is enough.
     ///
     /// ```
     /// use netkat::{Expr, Names, Pattern};
@@ -40,8 +40,8 @@ impl Refusal {
     /// # Ok::<(), netkat::ParsePatternError>(())
     /// ```
     ///
-    /// Numbers that are not about a record of a policy (1 to 4 and 8 about bytes, 9, 10, 26 to 28, 42) give the sentence that the refusal's
-    /// `Display` gives. So does a policy that is not the refused one, and then the text says so.
+    /// Numbers that are not about a part of a policy (1 to 4 and 8 about bytes, 9, 10, 26 to 28, 42, 49, 50) give the sentence that the
+    /// refusal's `Display` gives. So does a policy that is not the refused one, and then the text says so.
     pub fn explain(&self, policy: &Expr, names: &Names) -> String {
         if !self.is_about_a_tree() {
             return self.to_string();
@@ -56,14 +56,14 @@ impl Refusal {
         let at = At { outline: &outline, names, place, node: spot.node };
         let part = at.part(spot.node);
         match at.facts(self.kind()) {
-            Some(facts) => format!("{facts} (record {place}, refusal {})\n  in: {part}{}", self.number, at.advice(self.kind(), policy)),
+            Some(facts) => format!("{facts} {}\n  in: {part}{}", self.numbers(), at.advice(self.kind(), policy)),
             None => format!("{self}\n  in: {part}\n  the policy given here does not break this rule there: it is not the one that was refused"),
         }
     }
 
-    /// Whether a tree can cause the refusal, at one of its records.
+    /// Whether a tree can cause the refusal: at one of its records, or as a whole, whose place is 0.
     fn is_about_a_tree(&self) -> bool {
-        matches!(self.number, 5..=7 | 11..=25 | 35..=37 | 41)
+        matches!(self.number, 5..=7 | 11..=25 | 35..=37 | 41 | 48)
     }
 }
 
@@ -119,6 +119,7 @@ impl At<'_> {
                 _ => None,
             },
             RefusalKind::TermKind => self.term_kind(),
+            RefusalKind::CoreNotTest => self.core_not_test(),
             _ => self.widths(kind),
         }
     }
@@ -227,6 +228,16 @@ impl At<'_> {
         } else {
             Some(format!("{rule}, and `{}` is not one because of `{}` at record {culprit}", shown(operand), shown(culprit)))
         }
+    }
+
+    /// What keeps the policy from being a test. Its core is one exactly if it is one itself.
+    fn core_not_test(&self) -> Option<String> {
+        let culprit = self.outline.non_test(self.place)?;
+        let because = match culprit == self.place {
+            true => String::new(),
+            false => format!(" because of `{}` at record {culprit}", self.part(self.outline.spots[culprit].node)),
+        };
+        Some(format!("packets can be run through a test only, and this is not one{because}"))
     }
 
     fn term_kind(&self) -> Option<String> {

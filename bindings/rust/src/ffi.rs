@@ -53,6 +53,16 @@ extern "C" {
         b_bits: u32,
     ) -> Answer;
     fn netkat_read_core(core: *const u8, core_len: usize, records: *mut u32, records_len: usize) -> Answer;
+    fn netkat_run_packets(
+        core: *const u8,
+        core_len: usize,
+        records: *mut u32,
+        records_len: usize,
+        packets: *const u8,
+        packets_len: usize,
+        lengths: *const u32,
+        lengths_len: usize,
+    ) -> Answer;
     fn netkat_version() -> u32;
 }
 
@@ -68,13 +78,19 @@ impl Answer {
     }
 }
 
+/// The values as one number, the first its low half.
+fn wide((low, high): (u32, u32)) -> u64 {
+    u64::from(high) << 32 | u64::from(low)
+}
+
 /// First value: 1 if the term is a test.
 pub(crate) fn check(term: &[u8]) -> Values {
     // SAFETY: the pointer and the length are those of a slice.
     unsafe { netkat_check(term.as_ptr(), term.len()) }.values()
 }
 
-/// What the library is lent to make a core: work memory and an answer buffer. To read one, the work memory is the record list.
+/// What the library is lent to make a core: work memory and an answer buffer. To read one, or to run packets through it, the work memory is
+/// the record list.
 ///
 /// Neither is cleared, and the vectors' lengths are 0 but for the answer: pages that no call has touched take no memory.
 pub(crate) struct Memory {
@@ -119,11 +135,15 @@ impl Memory {
         Ok((&self.out, drawn))
     }
 
+    /// Which packets pass the core, a bit for each.
+    pub fn run_packets(&mut self, core: &[u8], packets: &[u8], lengths: &[u32]) -> Result<u64, Refusal> {
+        run_packets(core, &mut self.work, packets, lengths)
+    }
+
     /// The records of a core, three numbers each, and the field count.
     pub fn read_core(&mut self, core: &[u8]) -> Result<(&[u32], u32), Refusal> {
         self.work.clear();
-        // A record has at least one byte, so that a list of this length is never refused by 10.
-        let list_len = 3 * core.len().min(MAX_CORE_RECORDS);
+        let list_len = list_len(core);
         self.work.reserve(list_len);
         // SAFETY: the first pointer and its length are those of a slice; behind the second there is room for so many numbers, which are
         // borrowed mutably, so nothing overlaps them. They are not initialised, and the library does not read them.
@@ -135,6 +155,34 @@ impl Memory {
         unsafe { self.work.set_len(numbers) };
         Ok((&self.work, fields))
     }
+}
+
+/// The numbers of a record list for the core. A record has at least one byte, so that a list of this length is never refused by 10.
+fn list_len(core: &[u8]) -> usize {
+    3 * core.len().min(MAX_CORE_RECORDS)
+}
+
+/// Which packets pass the core, a bit for each. The list becomes as long as the core needs it, and is as long already at the next call.
+pub(crate) fn run_packets(core: &[u8], list: &mut Vec<u32>, packets: &[u8], lengths: &[u32]) -> Result<u64, Refusal> {
+    let list_len = list_len(core);
+    list.clear();
+    list.reserve(list_len);
+    // SAFETY: each pointer and its length are those of a slice, but for the list: behind its pointer there is room for so many numbers, which
+    // are borrowed mutably, so nothing overlaps them. They are not initialised, and they need not be: the answer does not depend on what they
+    // hold (proved).
+    let answer = unsafe {
+        netkat_run_packets(
+            core.as_ptr(),
+            core.len(),
+            list.as_mut_ptr(),
+            list_len,
+            packets.as_ptr(),
+            packets.len(),
+            lengths.as_ptr(),
+            lengths.len(),
+        )
+    };
+    answer.values().map(wide)
 }
 
 /// Writes the result to `out`, which has room for it or is refused by 26.
@@ -185,8 +233,7 @@ pub(crate) fn cost(range: Range<u32>, pattern: u8, number: u32, a: (&[u8], u32),
     let (start, end, pattern) = (range.start, range.end, pattern.into());
     // SAFETY: each pointer and its length are those of a slice. Both slices are only read.
     let answer = unsafe { netkat_cost(start, end, pattern, number, a.0.as_ptr(), a.0.len(), a.1, b.0.as_ptr(), b.0.len(), b.1) };
-    let (low, high) = answer.values()?;
-    Ok(u64::from(high) << 32 | u64::from(low))
+    answer.values().map(wide)
 }
 
 /// The library's version as one number: major * 65,536 + minor * 256 + patch.

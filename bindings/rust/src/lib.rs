@@ -33,9 +33,10 @@
 //! | what a pattern will draw on the allowance | [`cost()`] |
 //! | what the core is | [`Core`], [`Node`], [`View`] |
 //! | storing a core and reading it back | [`Core::to_bytes`], [`Core::from_bytes`] |
+//! | which packets pass a test | [`Core::run`]; of a capture of any length, [`Core::run_all`] |
 //! | why there is no answer | [`Refusal`], [`Refusal::explain`] |
 //! | how large a policy can be, and what to do with more | [`limits`] |
-//! | terms and cores that are bytes already | [`bytes`] |
+//! | terms, cores and packets that are bytes already | [`bytes`] |
 //! | the memory that a thread keeps | [`release_memory`] |
 //!
 //! The origin of the library, and of the names here, is KATch2 (<https://github.com/julesjacobs/KATch2>, MIT), called "the original" on
@@ -60,6 +61,7 @@ mod literal;
 mod names;
 mod node;
 mod outline;
+mod packets;
 mod record;
 mod refusal;
 mod slots;

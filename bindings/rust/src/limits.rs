@@ -9,7 +9,8 @@
 //! | fields that a range pattern is matched against | [`MAX_RANGE_PATTERN_FIELDS`] | 20 |
 //! | names | 65,536 | [`Names::try_intern`](crate::Names::try_intern) gives none |
 //! | core nodes that the steps of a desugaring make | [`Desugarer::MAX_ALLOWANCE`](crate::Desugarer::MAX_ALLOWANCE), or less as the caller likes | 24 |
-//! | nodes of a core that is read from bytes | [`MAX_CORE_RECORDS`] | 42 |
+//! | nodes of a core that is read from bytes, or that packets are run through | [`MAX_CORE_RECORDS`] | 42 |
+//! | packets of one [`Core::run`](crate::Core::run) | [`MAX_PACKETS`]; of [`Core::run_all`](crate::Core::run_all) any number | 49 |
 //!
 //! A core that is made has no limit of its own: not more nodes than the steps made, and any depth.
 //! [`Refusal::explain`](crate::Refusal::explain) says which limit a policy is beyond, and by how much.
@@ -86,7 +87,8 @@
 //! With slices of other sizes the unions are grouped in another way, and the meaning is the same. A refusal by a rule has its place in the slice: keep count of
 //! the rules before it to say which one it is.
 //!
-//! Joined cores may have more nodes than can be read from bytes. To store them, store the core of each slice, and join what is read.
+//! Joined cores may have more nodes than can be read from bytes. To store them, store the core of each slice, and join what is read. To run
+//! packets through them, run them through the core of each slice: a packet passes the union if it passes one of them.
 //!
 //! What holds of `+` holds of `&`, `^`, `-`, `U`, `~`, `*` and `X` as well. Of `;` it holds but for a `1`, which is left out. It does not hold below `!`, which
 //! changes the core that it is given.
@@ -118,3 +120,6 @@ pub const MAX_RANGE_PATTERN_COST: u64 = 33_529;
 
 /// The most nodes of a core that [`Core::from_bytes`](crate::Core::from_bytes) reads: its records. No desugaring makes more.
 pub const MAX_CORE_RECORDS: usize = 65_535;
+
+/// The most packets of one [`Core::run`](crate::Core::run): the answer has a bit for each.
+pub const MAX_PACKETS: usize = 64;

@@ -2,15 +2,17 @@ use std::borrow::Cow;
 use std::error::Error;
 use std::fmt;
 
-use crate::limits::{MAX_CIDR_PREFIX, MAX_CORE_RECORDS, MAX_LEVELS, MAX_LITERAL_BITS, MAX_RANGE_PATTERN_FIELDS, MAX_RECORDS};
+use crate::limits::{
+    MAX_CIDR_PREFIX, MAX_CORE_RECORDS, MAX_LEVELS, MAX_LITERAL_BITS, MAX_PACKETS, MAX_RANGE_PATTERN_FIELDS, MAX_RECORDS,
+};
 use crate::literal::grouped;
 
 /// Why there is no answer: a number of the requirement, and a place.
 ///
-/// Numbers are 1 to 28, 31 to 38, 41 and 42. The place of 1 to 7, 11 to 25, 41 and 42 is the index of a record in the term, or in the core
-/// that is read, from 0 in written order; that of 8 is the number of records; that of 31 to 38 counts in the replacement; that of 9, 10 and
-/// 26 to 28 is 0, and so is each of [`cost()`](crate::cost()). A record has the same index in [`Expr::nodes`](crate::Expr::nodes), so that
-/// the part of the policy can be shown:
+/// Numbers are 1 to 28, 31 to 38, 41, 42 and 48 to 50. The place of 1 to 7, 11 to 25, 41 and 42 is the index of a record in the term, or in
+/// the core that is read, from 0 in written order; that of 8 is the number of records; that of 31 to 38 counts in the replacement; that of 50
+/// is the index of a packet; that of 9, 10, 26 to 28, 48 and 49 is 0, and so is each of [`cost()`](crate::cost()). A record has the same index
+/// in [`Expr::nodes`](crate::Expr::nodes), so that the part of the policy can be shown:
 ///
 /// ```
 /// use netkat::{Expr, RefusalKind};
@@ -30,7 +32,8 @@ use crate::literal::grouped;
 pub struct Refusal {
     /// The refusal's number; [`Refusal::kind`] says what it is about.
     pub number: u32,
-    /// The record's index, from 0 in written order; the number of records for bytes left over; 0 where no record is meant.
+    /// The record's index, from 0 in written order; the number of records for bytes left over; the packet's index for a packet that is too
+    /// short; 0 where none of these is meant.
     pub place: u32,
 }
 
@@ -86,6 +89,12 @@ pub enum RefusalKind {
     TermKind,
     /// 42: a core of more than 65,535 nodes.
     CoreTooLarge,
+    /// 48: the core that packets are to be run through is not a test.
+    CoreNotTest,
+    /// 49: no packet, or more than 64.
+    PacketCount,
+    /// 50: a packet that has fewer bits than the field count of the core. The place is its index.
+    PacketTooShort,
     /// Any other number. The library gives none.
     Unknown,
 }
@@ -180,6 +189,9 @@ impl RefusalKind {
             28 => Self::SubrangeOutside,
             41 => Self::TermKind,
             42 => Self::CoreTooLarge,
+            48 => Self::CoreNotTest,
+            49 => Self::PacketCount,
+            50 => Self::PacketTooShort,
             _ => Self::Unknown,
         }
     }
@@ -219,23 +231,23 @@ impl RefusalKind {
             Self::SubrangeOutside => "the part that is asked for does not lie inside the alias's range",
             Self::TermKind => "a core has no expression of this kind: desugaring replaces it",
             Self::CoreTooLarge => return Cow::from(format!("the core has more than {} nodes", grouped(MAX_CORE_RECORDS as u64))),
+            Self::CoreNotTest => "packets can be run through a test only, and this core is not one",
+            Self::PacketCount => return Cow::from(format!("there must be from 1 to {MAX_PACKETS} packets")),
+            Self::PacketTooShort => "the packet is too short for the fields that the core tests",
             Self::Unknown => "the library gave a refusal that is not known here",
         };
         Cow::from(sentence)
     }
 
-    /// Whether the refusal's place is a record's. That of bytes left over is the number of records.
-    fn has_place(self) -> bool {
-        !matches!(
-            self,
-            Self::Form(FormFault::LeftOver)
-                | Self::Replacement(FormFault::LeftOver)
-                | Self::Allowance
-                | Self::WorkMemory
-                | Self::BufferTooShort
-                | Self::ResultTooLarge
-                | Self::SubrangeOutside
-        )
+    /// What the refusal's place is the index of. That of bytes left over is the number of records.
+    fn placed(self) -> Option<&'static str> {
+        match self {
+            Self::Form(FormFault::LeftOver) | Self::Replacement(FormFault::LeftOver) => None,
+            Self::Allowance | Self::WorkMemory | Self::BufferTooShort | Self::ResultTooLarge | Self::SubrangeOutside => None,
+            Self::CoreNotTest | Self::PacketCount => None,
+            Self::PacketTooShort => Some("packet"),
+            _ => Some("record"),
+        }
     }
 }
 
@@ -245,25 +257,28 @@ impl Refusal {
         RefusalKind::from_number(self.number)
     }
 
+    /// The place, where there is one, and the number.
+    pub(crate) fn numbers(&self) -> String {
+        match self.kind().placed() {
+            Some(what) => format!("({what} {}, refusal {})", self.place, self.number),
+            None => format!("(refusal {})", self.number),
+        }
+    }
+
     /// The same fault of form, in a replacement.
     pub(crate) fn in_replacement(self) -> Self {
         Refusal { number: self.number + 30, ..self }
     }
 }
 
-/// A sentence for the policy's author, then the record and the number.
+/// A sentence for the policy's author, then the record or packet and the number.
 impl fmt::Display for Refusal {
     fn fmt(&self, f: &mut fmt::Formatter<'_>) -> fmt::Result {
         let kind = self.kind();
         if matches!(kind, RefusalKind::Replacement(_)) {
             f.write_str("in the replacement: ")?;
         }
-        f.write_str(&kind.sentence())?;
-        if kind.has_place() {
-            write!(f, " (record {}, refusal {})", self.place, self.number)
-        } else {
-            write!(f, " (refusal {})", self.number)
-        }
+        write!(f, "{} {}", kind.sentence(), self.numbers())
     }
 }
 

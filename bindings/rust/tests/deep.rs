@@ -61,6 +61,22 @@ fn core_that_leans_left() {
     });
 }
 
+#[test]
+fn packets_through_deep_tests() {
+    on_a_small_stack(|| {
+        let field = |i: u32| Expr::test(i % 64, true);
+        let left = (0..32_767).fold(field(0), |rest, i| Expr::intersect(rest, field(i)));
+        let right = (0..32_767).fold(field(0), |rest, i| Expr::xor(field(i), rest));
+        // Of field 0 there are 513 tests, of all fields 32,768.
+        let packets: [&[u8]; 3] = [&[1, 0, 0, 0, 0, 0, 0, 0], &[255; 8], &[0; 8]];
+        for (deep, passed) in [(left, 0b010), (right, 0b001)] {
+            let core = Core::from_expr(&deep).unwrap();
+            assert_eq!(core.len(), 65_535);
+            assert_eq!(core.run(&packets), Ok(passed));
+        }
+    });
+}
+
 /// Trees that are deep at any child, or at two of them in turn.
 #[test]
 fn deep_trees_of_each_shape() {

@@ -393,6 +393,24 @@ fn no_core() {
         .contains("it is not the one that was refused"));
 }
 
+/// Packets are run through a core that is not a test: its policy is explained, or the core itself.
+#[test]
+fn no_test_for_packets() {
+    let policy = Expr::let_in(V, Expr::assign(4, true), alias(Expr::union(Expr::var_test(A, bits(3, 4)), Expr::var(V))));
+    let core = policy.desugar().unwrap();
+    let refusal = core.run(&[&[0]]).unwrap_err();
+    assert_eq!(
+        refusal.explain(&policy, &names()),
+        "packets can be run through a test only, and this is not one because of `x4 := 1` at record 1 (refusal 48)\n  \
+         in: let v = x4 := 1 in let a = &x[0..4] in a ~ 0x3 + v"
+    );
+    let text = refusal.explain(&core.to_expr(), &names());
+    assert!(text.contains("is not one because of `x4 := 1` at record 8 (refusal 48)"), "{text}");
+    let text = Core::from_expr(&Expr::Dup).unwrap().run(&[&[0]]).unwrap_err().explain(&Expr::Dup, &names());
+    assert_eq!(text, "packets can be run through a test only, and this is not one (refusal 48)\n  in: dup");
+    assert!(refusal.explain(&Expr::one(), &names()).contains("it is not the one that was refused"));
+}
+
 /// Whatever the refusal and the policy, there is a text, and it has the number.
 #[test]
 fn another_policy() {

@@ -88,6 +88,7 @@ impl Drop for AtTheEnd {
         assert_eq!(desugar(&Expr::One).unwrap().len(), 1);
         assert_eq!(bytes::desugar(&[1, 1]).unwrap(), [1, 1]);
         assert_eq!(Core::from_bytes(&[1, 1]).unwrap().len(), 1);
+        assert_eq!(Core::from_bytes(&[1, 1]).unwrap().run(&[&[]]), Ok(1));
     }
 }
 

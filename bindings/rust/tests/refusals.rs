@@ -6,15 +6,15 @@ use std::error::Error;
 use netkat::{bits, bytes, compute_subrange, limits, Desugarer, Exp, Expr, FormFault, Pattern, Refusal, RefusalKind};
 
 fn numbers() -> impl Iterator<Item = u32> {
-    (1..=28).chain(31..=38).chain(41..=42)
+    (1..=28).chain(31..=38).chain(41..=42).chain(48..=50)
 }
 
 #[test]
 fn every_number_has_a_kind_of_its_own() {
     let kinds: HashSet<RefusalKind> = numbers().map(|number| Refusal { number, place: 0 }.kind()).collect();
-    assert_eq!(kinds.len(), 38);
+    assert_eq!(kinds.len(), 41);
     assert!(!kinds.contains(&RefusalKind::Unknown));
-    for number in [0, 29, 30, 39, 40, 43, 71, 72, u32::MAX] {
+    for number in [0, 29, 30, 39, 40, 43, 47, 51, 71, 72, u32::MAX] {
         assert_eq!(Refusal { number, place: 0 }.kind(), RefusalKind::Unknown);
     }
     assert_eq!(Refusal { number: 37, place: 0 }.kind(), RefusalKind::Replacement(FormFault::TooDeep));
@@ -26,12 +26,13 @@ fn every_number_has_a_sentence_of_its_own() {
         .map(|number| {
             let text = Refusal { number, place: 9_876 }.to_string();
             assert!(text.contains(&format!("refusal {number})")), "{text}");
-            let has_place = !matches!(number, 8..=10 | 26..=28 | 38);
-            assert_eq!(text.contains("record 9876"), has_place, "{text}");
-            text.split(" (re").next().unwrap().to_owned()
+            let has_record = !matches!(number, 8..=10 | 26..=28 | 38 | 48..=50);
+            assert_eq!(text.contains("(record 9876, "), has_record, "{text}");
+            assert_eq!(text.contains("(packet 9876, "), number == 50, "{text}");
+            text.split(" (").next().unwrap().to_owned()
         })
         .collect();
-    assert_eq!(sentences.len(), 38);
+    assert_eq!(sentences.len(), 41);
 }
 
 #[test]

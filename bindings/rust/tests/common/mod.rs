@@ -167,6 +167,22 @@ impl Random {
         }
     }
 
+    /// An expression that is a core and a test, of at most `depth` levels, on the fields below a number.
+    #[allow(dead_code)]
+    pub fn test(&mut self, depth: usize, fields: usize) -> Exp {
+        let d = depth - 1;
+        match self.below(if depth > 1 { 16 } else { 6 }) {
+            0 => Expr::zero(),
+            1 => Expr::one(),
+            2..=5 => Expr::test(self.below(fields) as u32, self.flag()),
+            6..=8 => Expr::union(self.test(d, fields), self.test(d, fields)),
+            9 | 10 => Expr::intersect(self.test(d, fields), self.test(d, fields)),
+            11 | 12 => Expr::xor(self.test(d, fields), self.test(d, fields)),
+            13 | 14 => Expr::difference(self.test(d, fields), self.test(d, fields)),
+            _ => Expr::sequence(self.test(d, fields), self.test(d, fields)),
+        }
+    }
+
     fn leaf(&mut self) -> Exp {
         match self.below(16) {
             0 => Expr::zero(),
