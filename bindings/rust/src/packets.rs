@@ -51,7 +51,7 @@ impl Core {
     }
 
     /// Whether each packet of a capture of any length passes, in the order of the packets. They are run in batches of 64, in memory that is
-    /// allocated once.
+    /// allocated once: up to 64 packets are taken before the first answer is given.
     ///
     /// ```
     /// use netkat::{desugar, Expr, Refusal};
@@ -65,7 +65,8 @@ impl Core {
     /// ```
     ///
     /// A packet that is too short is refused by 50 in its turn, with its index in the whole capture as the place, and those behind it are run
-    /// all the same. A core that is refused, by 25, 42 or 48, is so once, when the first packet comes, and that is the end.
+    /// all the same; each such packet costs one or two more readings of the core. A core that is refused, by 25, 42 or 48, is so once, when the
+    /// first packet comes, and that is the end.
     ///
     /// ```
     /// use netkat::{desugar, Expr, Refusal};
