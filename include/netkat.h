@@ -265,12 +265,13 @@ netkat_answer netkat_cost(uint32_t start, uint32_t end, uint32_t pattern, uint32
 netkat_answer netkat_read_core(const uint8_t *core, size_t core_len, uint32_t *records, size_t records_len);
 
 /* Runs packets through a core that is a test, one with the kinds 0, 1 and 6 to 11 alone, and reads its records once for all of them. The
- * answer has a bit for each packet, bit 0 for the first: 1 if the packet passes, that is if the core relates it to itself. The bits of
- * packets that are not there are 0. first is the low half of these 64 bits, second the high half, and NETKAT_PASSED puts them together.
+ * answer has a bit for each packet, bit 0 for the first: 1 if the packet passes, that is if the core relates it to itself, whatever the
+ * fields beyond its bytes are. The bits of packets that are not there are 0. first is the low half of these 64 bits, second the high half,
+ * and NETKAT_PASSED puts them together.
  * The packets lie end to end in packets, and lengths has the length of each in bytes, so that a packet begins at the sum of the lengths
  * before it, which may be beyond 32 bits. A packet has 8 bits for each of its bytes that packets holds: one that goes beyond the end is cut
- * there, one that begins beyond it is empty. Field f is bit f % 8 of the packet's byte f / 8, bit 0 the lowest. A packet may have more
- * bits than the field count of the core: the answer depends on none of them, nor on bytes behind the last packet.
+ * there, one that begins beyond it is empty. Field f is bit f % 8 of the packet's byte f / 8, bit 0 the lowest. Bits of a packet beyond the
+ * field count of the core, and bytes behind the last packet, are not looked at.
  * 1 to 5, 8, 41, 42, 25 and 10, as netkat_read_core refuses the core and the list. Then 48 if the core is not a test; 49 if there is no
  * packet or more than 64; 50 at the first packet that has fewer bits than the field count.
  * Of records only the length counts: the answer does not depend on its numbers, and nothing is promised of them after the call, whether it
