@@ -12,7 +12,7 @@ cargo build --profile checked --offline --quiet --target-dir "$target" || exit 2
 oracle=$target/release/oracle
 checked=$target/checked/oracle
 sample=$target/sample.txt
-vectors="vectors/operations.txt vectors/long_literals.txt vectors/costs.txt vectors/cores.txt vectors/program.txt ../tests/probes.txt"
+vectors="vectors/operations.txt vectors/long_literals.txt vectors/costs.txt vectors/cores.txt vectors/packets.txt vectors/program.txt ../tests/probes.txt"
 
 differences=0
 step() {
@@ -27,6 +27,7 @@ step "$oracle" compare $((SEED + 1)) $((COUNT / 30)) 400 "$THREADS"
 step "$oracle" long "$SEED" "$COUNT" 20 "$THREADS"
 step "$oracle" costs "$SEED" $((COUNT * 3 / 10))
 step "$oracle" cores "$SEED" $((COUNT * 3 / 10))
+step "$oracle" packets "$SEED" $((COUNT * 3 / 10))
 step "$oracle" meaning "$SEED" $((COUNT / 3))
 "$oracle" sample "$SEED" $((COUNT / 10)) 30 > "$sample" || differences=1
 step "$oracle" replay "$sample"

@@ -86,7 +86,10 @@ impl LongLiterals {
 
 impl Stats {
     pub fn count(&mut self, what: &str) {
-        *self.counts.entry(what.to_string()).or_default() += 1;
+        self.add(what, 1);
+    }
+    pub fn add(&mut self, what: &str, times: u64) {
+        *self.counts.entry(what.to_string()).or_default() += times;
     }
     pub fn differs(&mut self, what: &str, times: u64, detail: String) {
         let entry = self.differences.entry(what.to_string()).or_insert((0, detail.clone()));
@@ -106,7 +109,7 @@ impl Stats {
     pub fn merge(&mut self, other: Stats) {
         self.inputs += other.inputs;
         for (what, n) in other.counts {
-            *self.counts.entry(what).or_default() += n;
+            self.add(&what, n);
         }
         for (sum, n) in self.records.iter_mut().zip(other.records) {
             *sum += n;

@@ -104,7 +104,7 @@ pub fn read(core: &[u8], room: u64) -> Res<Listing> {
 }
 
 /// The bytes of records.
-fn written(records: &[Record]) -> Vec<u8> {
+pub fn written(records: &[Record]) -> Vec<u8> {
     let mut out = Vec::new();
     for [kind, field, value] in records {
         put_record(&Node { kind: *kind as u8, start: *field, num: *value as u8, ..Node::default() }, &mut out);
@@ -117,18 +117,22 @@ fn records_of(tree: &Tree) -> Vec<Record> {
     core_nodes(tree).iter().map(|node| [node.kind as u32, node.field, node.value as u32]).collect()
 }
 
-/// Records as a vector line has them: equal ones in a row once, with their number behind them.
-pub fn text(records: &[Record]) -> String {
-    let runs = records.chunk_by(|a, b| a == b).map(|run| {
-        let [kind, field, value] = run[0];
-        let times = if run.len() > 1 { format!("*{}", run.len()) } else { String::new() };
-        format!("{kind}:{field}:{value}{times}")
+/// A list as a vector line has it: equal ones in a row once, with their number behind them.
+pub fn runs<T: PartialEq>(list: &[T], text: impl Fn(&T) -> String) -> String {
+    let runs = list.chunk_by(|a, b| a == b).map(|run| match run.len() {
+        1 => text(&run[0]),
+        times => format!("{}*{times}", text(&run[0])),
     });
     runs.collect::<Vec<_>>().join(",")
 }
 
+/// Records as a vector line has them.
+pub fn text(records: &[Record]) -> String {
+    runs(records, |[kind, field, value]| format!("{kind}:{field}:{value}"))
+}
+
 /// As much of a core's bytes as a report shows.
-fn shown(core: &[u8]) -> String {
+pub fn shown(core: &[u8]) -> String {
     if core.len() <= 2 * SHOWN {
         return hex(core);
     }
@@ -264,7 +268,7 @@ fn with_top_field(r: &mut Rng, mut records: Vec<Record>) -> Vec<Record> {
 }
 
 /// One thing amiss with the bytes: a byte changed, lacking or doubled, the end lacking, bytes behind.
-fn damaged(r: &mut Rng, mut core: Vec<u8>) -> Vec<u8> {
+pub fn damaged(r: &mut Rng, mut core: Vec<u8>) -> Vec<u8> {
     let i = r.below(core.len() as u64) as usize;
     match r.below(6) {
         0 => core[i] = r.next() as u8,

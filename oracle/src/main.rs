@@ -15,6 +15,7 @@ mod lent;
 mod meaning;
 mod model;
 mod original;
+mod packets;
 mod policies;
 mod port;
 mod trees;
@@ -27,6 +28,7 @@ oracle exhaustive LENGTH                    all byte strings up to LENGTH; beyon
 oracle meaning SEED COUNT                   packet meaning of a written term and of its core, on six fields
 oracle costs SEED COUNT                     what matches cost, all small ones and random ones, through the model, the original and the port
 oracle cores SEED COUNT                     cores read back, the largest, damaged and random ones, through the model, the original and the port
+oracle packets SEED COUNT                   packets through cores that are tests, through the model, the original and the port
 oracle sample SEED COUNT BUDGET             random vector lines with the model's answers
 oracle bounds SEED COUNT                    lines that compare bounds, all small ones and random ones, with the model's answers
 oracle answer                               completes the vector lines on standard input, from what stands before =>
@@ -69,6 +71,7 @@ fn run(args: Vec<String>) -> bool {
         "meaning" => meaning::run(n(2), n(3)),
         "costs" => costs::run(n(2), n(3)).print(),
         "cores" => cores::run(n(2), n(3)).print(),
+        "packets" => packets::compared(n(2), n(3)).print(),
         "sample" => vectors::sample(n(2), n(3), n(4) as i64),
         "bounds" => vectors::bounds(n(2), n(3)),
         "answer" => vectors::answer(),

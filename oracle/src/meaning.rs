@@ -1,12 +1,13 @@
 //! Document 01's packet meaning on six fields: the written term beside its core, and the test sort beside it.
+use crate::cores::Record;
 use crate::gen::{Gen, Rng};
 use crate::model::*;
 use crate::vectors::hex;
 
-const FIELDS: u32 = 6;
-const N: usize = 1 << FIELDS;
+pub const FIELDS: u32 = 6;
+pub const N: usize = 1 << FIELDS;
 /// Row p holds the set of q.
-type Rel = Box<[u64; N]>;
+pub type Rel = Box<[u64; N]>;
 
 fn rel(f: impl Fn(usize, usize) -> bool) -> Rel {
     let mut r = Box::new([0u64; N]);
@@ -148,6 +149,24 @@ fn of_core(c: &Core) -> Rel {
         STAR => star(&of_core(&c.kids[0])),
         _ => leaf(c.kind, c.field, c.value),
     }
+}
+
+/// The relation of a test, given by its records on the six fields.
+pub fn of_records(records: &[Record]) -> Rel {
+    let mut relations: Vec<Rel> = Vec::new();
+    for &[kind, field, value] in records.iter().rev() {
+        let kind = kind as u8;
+        let relation = match children(kind) {
+            0 => leaf(kind, field, value == 1),
+            _ => {
+                // the left operand was pushed last
+                let (left, right) = (relations.pop().unwrap(), relations.pop().unwrap());
+                combine(kind, &left, &right)
+            }
+        };
+        relations.push(relation);
+    }
+    relations.pop().unwrap()
 }
 
 fn one_step(n: &Node) -> bool {

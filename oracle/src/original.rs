@@ -1,6 +1,7 @@
 //! The original: its trees from and to the model's trees and bytes, and its messages as numbers of document 01.
 use crate::expr::{Exp, Expr, Pattern};
 use crate::model::{self, Node};
+use crate::packets;
 use std::panic::{catch_unwind, UnwindSafe};
 
 /// Whether overflow panics in this build (Cargo.toml's profiles).
@@ -246,6 +247,20 @@ pub fn write_core(e: &Expr, out: &mut Vec<u8>) {
     out.extend([1, kind]);
     for child in children.into_iter().flatten() {
         write_core(child, out);
+    }
+}
+
+/// Whether a packet passes a tree that is a test; the right operand is looked at only where it counts.
+pub fn passes(e: &Expr, packet: &[u8]) -> bool {
+    match e {
+        Expr::Zero => false,
+        Expr::One => true,
+        Expr::Test(field, value) => packets::bit(packet, *field) == *value,
+        Expr::Union(a, b) => passes(a, packet) || passes(b, packet),
+        Expr::Intersect(a, b) | Expr::Sequence(a, b) => passes(a, packet) && passes(b, packet),
+        Expr::Xor(a, b) => passes(a, packet) != passes(b, packet),
+        Expr::Difference(a, b) => passes(a, packet) && !passes(b, packet),
+        _ => unreachable!("not a test"),
     }
 }
 

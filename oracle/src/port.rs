@@ -1,9 +1,10 @@
 //! The functions of include/netkat.h. Each wrapper also looks for what the header rules out: values beside a refusal, a changed byte
-//! where none may change, a number written behind the lent work memory or beside the lent list, an answer that depends on bytes behind what
-//! is lent. It panics there.
+//! where none may change, a number written behind the lent work memory or beside the lent list, an answer that depends on bytes beside what
+//! is lent, or on what a scratch list has before the call. It panics there.
 use crate::cores::Listing;
 use crate::costs::Match;
 use crate::model::{Desugared, Res};
+use crate::packets::Packets;
 use std::fmt::Debug;
 
 #[repr(C)]
@@ -30,6 +31,10 @@ extern "C" {
         start: u32, end: u32, pattern: u32, number: u32, a: *const u8, a_len: usize, a_bits: u32, b: *const u8, b_len: usize, b_bits: u32,
     ) -> Answer;
     fn netkat_read_core(core: *const u8, core_len: usize, records: *mut u32, records_len: usize) -> Answer;
+    fn netkat_run_packets(
+        core: *const u8, core_len: usize, records: *mut u32, records_len: usize, packets: *const u8, packets_len: usize,
+        lengths: *const u32, lengths_len: usize,
+    ) -> Answer;
 }
 
 /// The operation's values, or number and place of the refusal.
@@ -140,7 +145,12 @@ fn cost_before(m: &Match, behind: u8) -> Res<u64> {
     let answer = unsafe {
         netkat_cost(m.start, m.end, m.pattern, m.number, a.as_ptr(), a_len, m.a.bits, b.as_ptr(), b_len, m.b.bits)
     };
-    values(answer).map(|(low, high)| (high as u64) << 32 | low as u64)
+    halves(answer)
+}
+
+/// A value of 64 bits, the low half first.
+fn halves(a: Answer) -> Res<u64> {
+    values(a).map(|(low, high)| (high as u64) << 32 | low as u64)
 }
 
 /// The record count and the field count.
@@ -165,4 +175,41 @@ fn read_core_before(core: &[u8], room: usize, behind: u8) -> Res<Listing> {
     assert!(written <= room && list[..BEHIND] == before[..BEHIND] && list[end..] == before[end..], "a number changed beside the answer");
     let records = list[BEHIND..end].chunks_exact(3).map(|record| [record[0], record[1], record[2]]).collect();
     answer.map(|(_, fields)| Listing { records, fields })
+}
+
+/// The mask of the packets that pass.
+pub fn run_packets_into(core: &[u8], records: &mut [u32], packets: &[u8], lengths: &[u32]) -> Res<u64> {
+    halves(unsafe {
+        netkat_run_packets(
+            core.as_ptr(), core.len(), records.as_mut_ptr(), records.len(), packets.as_ptr(), packets.len(), lengths.as_ptr(), lengths.len(),
+        )
+    })
+}
+
+pub fn run_packets(p: &Packets) -> Res<u64> {
+    one_answer([0, 0xff].map(|around| run_packets_among(p, around)))
+}
+
+/// What is lent, with others of its sort before and behind it.
+fn among<T: Clone>(lent: &[T], other: T) -> Vec<T> {
+    let others = vec![other; BEHIND];
+    [&others, lent, &others].concat()
+}
+
+/// Each buffer is lent as the middle of one. Only the numbers of the list may change; its first ones differ with the bytes around.
+fn run_packets_among(p: &Packets, around: u8) -> Res<u64> {
+    let other = u32::from_ne_bytes([around; 4]);
+    let [core, packets] = [&p.core, &p.bytes].map(|bytes| among(bytes, around));
+    let lengths = among(&p.lengths, other);
+    let mut list = among(&vec![other; p.room as usize], WORK_MARK);
+    let list_end = list.len() - BEHIND;
+    let answer = run_packets_into(
+        &core[BEHIND..core.len() - BEHIND], &mut list[BEHIND..list_end], &packets[BEHIND..packets.len() - BEHIND],
+        &lengths[BEHIND..lengths.len() - BEHIND],
+    );
+    assert!(core == among(&p.core, around) && packets == among(&p.bytes, around), "a byte of the core or of the packets changed");
+    assert!(lengths == among(&p.lengths, other), "a length changed");
+    let beside = list[..BEHIND].iter().chain(&list[list_end..]);
+    assert!(beside.into_iter().all(|n| *n == WORK_MARK), "a number changed beside the list");
+    answer
 }

@@ -6,6 +6,7 @@ use crate::costs::{self, Match};
 use crate::gen::{self, Gen, Rng};
 use crate::lent::Lent;
 use crate::model::{self, *};
+use crate::packets::{self, Packets};
 use crate::port;
 
 pub fn hex(b: &[u8]) -> String {
@@ -39,6 +40,7 @@ enum Case {
     Cost(Match),
     /// A core, and how many numbers the list has.
     Read(Vec<u8>, u64),
+    Packets(Packets),
     /// The program of document 01 on a term.
     Program(Vec<u8>),
 }
@@ -53,6 +55,7 @@ struct Answerer {
     subrange: fn(u32, u32, u32, u32) -> Res<(u32, u32)>,
     cost: fn(&Match) -> Res<u64>,
     read: fn(&[u8], u64) -> Res<Listing>,
+    packets: fn(&Packets) -> Res<u64>,
 }
 const MODEL: Answerer = Answerer {
     desugar: model::desugar,
@@ -63,6 +66,7 @@ const MODEL: Answerer = Answerer {
     subrange: model::subrange,
     cost: costs::cost,
     read: cores::read,
+    packets: packets::run,
 };
 const PORT: Answerer = Answerer {
     desugar: port::desugar,
@@ -73,6 +77,7 @@ const PORT: Answerer = Answerer {
     subrange: port::subrange,
     cost: port::cost,
     read: port::read_core,
+    packets: port::run_packets,
 };
 
 fn show<T>(r: Res<T>, values: impl Fn(T) -> String) -> String {
@@ -102,6 +107,10 @@ impl Case {
                 Case::Cost(Match { start, end, pattern, number, a: lent(5), b: lent(7) })
             }
             "read" => Case::Read(unhex(words[1]), number(2)),
+            "packets" => {
+                let (core, bytes, lengths) = (unhex(words[1]), unhex(words[3]), packets::lengths(words[4]));
+                Case::Packets(Packets { core, room: number(2), bytes, lengths })
+            }
             term => Case::Program(unhex(term)),
         }
     }
@@ -119,6 +128,7 @@ impl Case {
             Case::Compare(width, a, b) => format!("compare {width} {} {}", a.text(), b.text()),
             Case::Cost(m) => m.question(),
             Case::Read(core, room) => format!("read {} {room}", hex(core)),
+            Case::Packets(p) => p.question(),
             Case::Program(t) => hex(t),
         }
     }
@@ -140,6 +150,7 @@ impl Case {
             Case::Read(core, room) => {
                 show((by.read)(core, *room), |l| format!("{} {} {}", l.records.len(), l.fields, cores::text(&l.records)))
             }
+            Case::Packets(p) => show((by.packets)(p), |mask| format!("{mask:016x}")),
             Case::Program(t) if t.len() > 8192 => "long".into(),
             Case::Program(t) => {
                 show((by.desugar)(t, 1000, work_needed(1000), 7000), |d| format!("{} {} | {}", d.drawn, d.core.len(), hex(&d.core)))
@@ -156,13 +167,13 @@ impl Case {
         match self {
             Case::Desugar { term, .. } | Case::Substitute { term, .. } => Some(term),
             Case::Check(t) | Case::Fragment(t) | Case::Fields(t) | Case::Program(t) => Some(t),
-            Case::Subrange(_) | Case::Compare(..) | Case::Cost(_) | Case::Read(..) => None,
+            Case::Subrange(_) | Case::Compare(..) | Case::Cost(_) | Case::Read(..) | Case::Packets(_) => None,
         }
     }
 }
 
 /// Each line's answer by the model and by the port; its term also through every comparison of compare.rs, its lent match through those of
-/// costs.rs, its core through those of cores.rs.
+/// costs.rs, its core through those of cores.rs, its packets through those of packets.rs.
 pub fn replay(files: &[String]) -> bool {
     let mut stats = Stats::default();
     let mut all_good = true;
@@ -184,6 +195,7 @@ pub fn replay(files: &[String]) -> bool {
             match &case {
                 Case::Cost(m) => costs::case(&mut stats, m, &mut r),
                 Case::Read(core, room) => cores::case(&mut stats, core, *room),
+                Case::Packets(p) => packets::case(&mut stats, p),
                 _ => case.term().into_iter().for_each(|term| stats.case(term, &mut r)),
             }
         }
@@ -228,6 +240,7 @@ fn random_case(r: &mut Rng, budget: i64) -> Case {
             let (core, room) = cores::random(r);
             return Case::Read(core, room);
         }
+        10..=14 => return Case::Packets(packets::random(r, 20)),
         _ => {}
     }
     let term = random_term(r, budget);
