@@ -2,10 +2,11 @@
 """second.py FILE...: a second reading of document 01 and of the changes, which answers the lines of vector files (`-` is standard input).
 
 It is built differently from the Rust model: form is a loop with a stack of children still to come, a core is a flat list of
-records in prefix order, and negation is one forward pass with a stack of modes after a backward pass for sizes.
+records in prefix order, negation is one forward pass with a stack of modes after a backward pass for sizes, and packets go through a core
+all at once, as sets, in one forward pass with a stack of operators that wait for an operand.
 """
 import sys
-from itertools import groupby
+from itertools import accumulate, groupby
 
 ARITY = [0] * 7 + [2] * 6 + [1] * 4 + [3, 2, 1] + [0] * 7
 BITS = {5: (2, 5), 6: (2, 5), 18: (1,), 19: (1, 2, 3), 20: (1,), 21: (1, 6), 22: (1, 6), 23: (2, 3, 6), 24: (2, 3, 6),
@@ -430,14 +431,55 @@ def fields(recs):
     return top
 
 
-def read(core, room):
+def core_records(core, room):
     """Document 02, change 1: the form and the field count of a term, then the list."""
     recs = form(core, core=True)
     count = fields(recs)
     if room < 3 * len(recs):
         no(10, 0)
+    return recs, count
+
+
+def read(core, room):
+    recs, count = core_records(core, room)
     runs = ((key, len(list(run))) for key, run in groupby(f"{r.kind}:{r.start}:{r.num}" for r in recs))
     return f"ok {len(recs)} {count} " + ",".join(key if times == 1 else f"{key}*{times}" for key, times in runs)
+
+
+# what the operators of tests make of two sets of packets
+OPERATORS = {7: set.union, 8: set.intersection, 9: set.symmetric_difference, 10: set.difference, 11: set.intersection}
+
+
+def passing(recs, packets):
+    """The numbers of the packets that pass; a packet is one number."""
+    everyone = set(range(len(packets)))
+    waiting = []  # operators, each with its left operand once that is known
+    for r in recs:
+        if r.kind in OPERATORS:
+            waiting.append([OPERATORS[r.kind]])
+            continue
+        known = {i for i in everyone if bit(packets[i], r.start) == r.num} if r.kind == 6 else everyone if r.kind else set()
+        while waiting and len(waiting[-1]) == 2:
+            operator, left = waiting.pop()
+            known = operator(left, known)
+        if waiting:
+            waiting[-1].append(known)
+    return known
+
+
+def packets(core, room, data, lengths):
+    """Document 02, change 8."""
+    recs, count = core_records(core, room)
+    if any(r.kind not in (0, 1, 6, *OPERATORS) for r in recs):
+        no(48, 0)
+    if not 0 < len(lengths) <= 64:
+        no(49, 0)
+    parts = [data[end - length:end] for end, length in zip(accumulate(lengths), lengths)]
+    for i, part in enumerate(parts):
+        if 8 * len(part) < count:
+            no(50, i)
+    mask = sum(1 << i for i in passing(recs, [int.from_bytes(part, "little") for part in parts]))
+    return f"ok {mask:016x}"
 
 
 def subrange(a, b, s, e):
@@ -497,6 +539,11 @@ def unhex(s):
     return b"".join(bytes.fromhex(digits) * int(times or 1) for digits, _, times in groups)
 
 
+def unlist(s):
+    runs = [] if s == "-" else [run.partition("*") for run in s.split(",")]
+    return [int(number) for number, _, times in runs for _ in range(int(times or 1))]
+
+
 def answer(q):
     w = q.split(" ")
     try:
@@ -518,6 +565,8 @@ def answer(q):
             return cost(*map(int, w[1:6]), unhex(w[6]), int(w[7]), unhex(w[8]))
         if w[0] == "read":
             return read(unhex(w[1]), int(w[2]))
+        if w[0] == "packets":
+            return packets(unhex(w[1]), int(w[2]), unhex(w[3]), unlist(w[4]))
         return program(unhex(w[0]))
     except No as e:
         return f"no {e.args[0]} {e.args[1]}"
