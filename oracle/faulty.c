@@ -118,6 +118,129 @@ netkat_answer netkat_read_core(const uint8_t *core, size_t core_len, uint32_t *r
     return a;
 }
 
+#elif defined(PACKETS_FROM_HIGHEST_BIT) || defined(PACKETS_NEXT_BYTE) || defined(PACKETS_ROUNDED_DOWN) || defined(PACKETS_CUT_IGNORED) || \
+    defined(PACKETS_STARTS_IN_32_BITS) || defined(PACKETS_XOR_AS_UNION) || defined(PACKETS_OPERANDS_EXCHANGED) || \
+    defined(PACKETS_UNUSED_BIT) || defined(PACKETS_HALVES_EXCHANGED) || defined(PACKETS_LAST_LOST) || defined(PACKETS_50_BEFORE_49) || \
+    defined(PACKETS_48_BEFORE_10) || defined(PACKETS_50_AT_0) || defined(PACKETS_DEPTH) || defined(PACKETS_LIST_COUNTS) || \
+    defined(PACKETS_BEHIND_LIST) || defined(PACKETS_CHANGED)
+#include <stdlib.h>
+#include <string.h>
+typedef struct {
+    uint8_t *bytes;
+    size_t bytes_len;
+    uint32_t lengths[512];
+    size_t count;
+} lent;
+netkat_answer true_run_packets(const uint8_t *core, size_t core_len, uint32_t *records, size_t records_len, const uint8_t *packets,
+                               size_t packets_len, const uint32_t *lengths, size_t lengths_len);
+
+/* The packets, each with `more` zeros behind it, and with zeros for what the slice lacks of it where `whole`. Starts are sums below `wrap`. */
+static lent copied(const uint8_t *packets, size_t packets_len, const uint32_t *lengths, size_t count, size_t more, int whole, uint64_t wrap) {
+    lent made = {calloc(1 << 20, 1), 0, {0}, count < 512 ? count : 512};
+    uint64_t begin = 0;
+    for (size_t i = 0; i < made.count; i++) {
+        size_t held = begin < packets_len ? packets_len - begin : 0;
+        if (lengths[i] < held) held = lengths[i];
+        size_t kept = whole && lengths[i] < 1000 ? lengths[i] : held;
+        memcpy(made.bytes + made.bytes_len, packets + begin % wrap, held);
+        made.bytes_len += kept + more;
+        made.lengths[i] = (uint32_t)(kept + more);
+        begin = (begin + lengths[i]) % wrap;
+    }
+    return made;
+}
+
+#if defined(PACKETS_XOR_AS_UNION) || defined(PACKETS_OPERANDS_EXCHANGED)
+/* The end of the record at `at`, and its kind. */
+static size_t record_end(const uint8_t *core, size_t at, uint8_t *kind) {
+    uint8_t map = core[at++];
+    *kind = map & 1 ? core[at] : 0;
+    return at + (map & 1) + (map & 4) + (map >> 5 & 1);
+}
+#endif
+
+netkat_answer netkat_run_packets(const uint8_t *core, size_t core_len, uint32_t *records, size_t records_len, const uint8_t *packets,
+                                 size_t packets_len, const uint32_t *lengths, size_t lengths_len) {
+    uint32_t before = records_len > 0 ? records[0] : 0;
+    netkat_answer a = true_run_packets(core, core_len, records, records_len, packets, packets_len, lengths, lengths_len);
+    lent other = copied(packets, packets_len, lengths, lengths_len, 0, 0, UINT64_MAX);
+    uint8_t *changed = malloc(core_len + 1), kind = 0;
+    if (core_len > 0) memcpy(changed, core, core_len);
+#if defined(PACKETS_FROM_HIGHEST_BIT)
+    for (size_t i = 0; i < other.bytes_len; i++) {
+        uint8_t byte = other.bytes[i];
+        for (int bit = 0; bit < 8; bit++) other.bytes[i] = (uint8_t)(other.bytes[i] << 1 | (byte >> bit & 1));
+    }
+    if (a.number == 0) a = true_run_packets(core, core_len, records, records_len, other.bytes, other.bytes_len, other.lengths, other.count);
+#elif defined(PACKETS_NEXT_BYTE)
+    if (a.number == 0) {
+        memmove(other.bytes, other.bytes + 1, other.bytes_len);
+        a = true_run_packets(core, core_len, records, records_len, other.bytes, other.bytes_len, other.lengths, other.count);
+    }
+#elif defined(PACKETS_ROUNDED_DOWN) || defined(PACKETS_CUT_IGNORED) || defined(PACKETS_STARTS_IN_32_BITS)
+    free(other.bytes);
+#if defined(PACKETS_ROUNDED_DOWN)
+    /* a packet may lack the byte that the last fields begin */
+    other = copied(packets, packets_len, lengths, lengths_len, 1, 0, UINT64_MAX);
+#elif defined(PACKETS_CUT_IGNORED)
+    other = copied(packets, packets_len, lengths, lengths_len, 0, 1, UINT64_MAX);
+#else
+    other = copied(packets, packets_len, lengths, lengths_len, 0, 0, (uint64_t)1 << 32);
+#endif
+    if (a.number == 50) a = true_run_packets(core, core_len, records, records_len, other.bytes, other.bytes_len, other.lengths, other.count);
+#elif defined(PACKETS_XOR_AS_UNION)
+    if (a.number == 0) {
+        for (size_t at = 0; at < core_len;) {
+            size_t end = record_end(core, at, &kind);
+            if (kind == 9) changed[at + 1] = 7;
+            at = end;
+        }
+        a = true_run_packets(changed, core_len, records, records_len, packets, packets_len, lengths, lengths_len);
+    }
+#elif defined(PACKETS_OPERANDS_EXCHANGED)
+    /* of a Difference at the root */
+    if (a.number == 0 && core[0] == 1 && core[1] == 10) {
+        size_t end = 2;
+        for (int due = 1; due > 0; due += kind >= 7 ? 1 : -1) end = record_end(core, end, &kind);
+        memcpy(changed + 2, core + end, core_len - end);
+        memcpy(changed + 2 + core_len - end, core + 2, end - 2);
+        a = true_run_packets(changed, core_len, records, records_len, packets, packets_len, lengths, lengths_len);
+    }
+#elif defined(PACKETS_UNUSED_BIT)
+    if (a.number == 0 && lengths_len < 32) a.first |= 1u << lengths_len;
+#elif defined(PACKETS_HALVES_EXCHANGED)
+    a = (netkat_answer){a.number, a.place, a.second, a.first};
+#elif defined(PACKETS_LAST_LOST)
+    if (lengths_len == 64) a.second &= UINT32_MAX >> 1;
+#elif defined(PACKETS_50_BEFORE_49)
+    if (a.number == 49 && lengths_len > 64) {
+        netkat_answer first = true_run_packets(core, core_len, records, records_len, packets, packets_len, lengths, 64);
+        if (first.number == 50) a = first;
+    }
+#elif defined(PACKETS_48_BEFORE_10)
+    if (a.number == 10) {
+        uint32_t *list = malloc((records_len + 3) * sizeof *list);
+        netkat_answer more = true_run_packets(core, core_len, list, records_len + 3, packets, packets_len, lengths, lengths_len);
+        if (more.number == 48) a = more;
+        free(list);
+    }
+#elif defined(PACKETS_50_AT_0)
+    if (a.number == 50) a.place = 0;
+#elif defined(PACKETS_DEPTH)
+    if (a.number == 0 && records_len > 180000 && core[2] == core[0] && core[3] == core[1]) a.first ^= 1;
+#elif defined(PACKETS_LIST_COUNTS)
+    if (a.number == 0 && before != 0) a.first ^= 1;
+#elif defined(PACKETS_BEHIND_LIST)
+    if (a.number == 0 && lengths_len > 40) records[records_len] = 0; /* the comparison has memory behind what it lends */
+#elif defined(PACKETS_CHANGED)
+    if (a.number == 50 && packets_len > 0) ((uint8_t *)packets)[packets_len - 1] ^= 1;
+#endif
+    (void)before, (void)kind;
+    free(other.bytes);
+    free(changed);
+    return a;
+}
+
 #else
 netkat_answer true_desugar(const uint8_t *term, size_t term_len, uint32_t allowance, uint32_t *work, size_t work_len, uint8_t *out,
                            size_t out_len);

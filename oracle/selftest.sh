@@ -1,6 +1,6 @@
 #!/bin/sh
 # Does the comparison see a fault? Puts one fault at a time into a copy of the original, then of the port, then of the model, then of the
-# port's costs, at last of what reads cores back, and wants a difference reported.
+# port's costs, of what reads cores back, at last of what runs packets, and wants a difference reported.
 # Needs ORACLE_SEEDS (see run.sh), target/staticlib/libnetkat.a, cc, ar and objcopy. ONLY=NAME tries one fault.
 if [ ! -d "${ORACLE_SEEDS:-}" ]; then
     echo "selftest.sh: set ORACLE_SEEDS to the folder that holds the original's expr.rs and desugar.rs" >&2
@@ -205,6 +205,33 @@ model "25 before what is left over" PORT \
     'let next = record(&mut rest).map_err(|number| (number, place))?;' \
     'let next = record(&mut rest).map_err(|number| (number, place))?; if next[1] == u32::MAX { return Err((25, place)); }' \
     cores.rs
+
+asked="packets 5 ${COUNT:-30000}"
+port PACKETS_FROM_HIGHEST_BIT run_packets
+port PACKETS_NEXT_BYTE run_packets
+port PACKETS_ROUNDED_DOWN run_packets
+port PACKETS_CUT_IGNORED run_packets
+port PACKETS_STARTS_IN_32_BITS run_packets
+port PACKETS_XOR_AS_UNION run_packets
+port PACKETS_OPERANDS_EXCHANGED run_packets
+port PACKETS_UNUSED_BIT run_packets
+port PACKETS_HALVES_EXCHANGED run_packets
+port PACKETS_LAST_LOST run_packets
+port PACKETS_50_BEFORE_49 run_packets
+port PACKETS_48_BEFORE_10 run_packets
+port PACKETS_50_AT_0 run_packets
+port PACKETS_DEPTH run_packets
+port PACKETS_LIST_COUNTS run_packets
+port PACKETS_BEHIND_LIST run_packets
+port PACKETS_CHANGED run_packets
+model "65 packets" PORT \
+    'if !(1..=MAX_PACKETS).contains(&p.lengths.len()) {' \
+    'if !(1..=65).contains(&p.lengths.len()) {' \
+    packets.rs
+model "the last packet that is too short" PORT \
+    'packets.iter().position(' \
+    'packets.iter().rposition(' \
+    packets.rs
 
 echo "$seen seen, $missed missed"
 [ $missed = 0 ]
