@@ -186,7 +186,7 @@ fn one_by_one(stats: &mut Stats, p: &Packets, packets: &[&[u8]], passing: &[bool
 
 // ---------------------------------------------------------------- inputs
 
-/// Records of a test of about `size` records on so many fields.
+/// Records of a test of about `size` records on so many fields from 0 on.
 fn random_records(r: &mut Rng, size: u64, fields: u64) -> Vec<Record> {
     let mut records: Vec<Record> = Vec::new();
     let mut due = 1;
@@ -218,11 +218,43 @@ fn random_test(r: &mut Rng) -> Vec<u8> {
     }
     let size = if r.pct(2) { 300 + r.below(3000) } else { 1 + r.below(30) };
     let fields = *r.pick(&[1, 4, 6, 8, 9, 16, 17, 40, 90]);
-    cores::written(&random_records(r, size, fields))
+    let mut records = random_records(r, size, fields);
+    if r.pct(15) {
+        far_apart(r, &mut records);
+    }
+    cores::written(&records)
+}
+
+/// Some fields are moved up by a multiple of a power of two: a function may keep what it knows of a field by its low bits.
+fn far_apart(r: &mut Rng, records: &mut [Record]) {
+    let step = 1 << (4 + r.below(7));
+    for record in records.iter_mut().filter(|record| record[0] == TEST as u32) {
+        record[1] += step * r.below(4) as u32;
+    }
+}
+
+/// Before a core, an operator and a left operand that may leave no packet: then the core counts for refusals alone.
+fn below_operator(r: &mut Rng, core: Vec<u8>) -> Vec<u8> {
+    let operator = vec![1, UNION + r.below(5) as u8];
+    let left = match r.below(4) {
+        0 => random_test(r),
+        1 => cores::written(&[[INTERSECT as u32, 0, 0], [TEST as u32, 0, 1], [TEST as u32, 0, 0]]),
+        _ => vec![ZERO],
+    };
+    [operator, left, core].concat()
+}
+
+/// A test, or what is made of one; some of them below operators.
+fn random_core(r: &mut Rng, slip: u64) -> Vec<u8> {
+    let mut core = random_operand(r, slip);
+    while r.pct(20) {
+        core = below_operator(r, core);
+    }
+    core
 }
 
 /// A test, or, as often as `slip` says, what cores that are read back are made of, a damaged test, or a test of a high field.
-fn random_core(r: &mut Rng, slip: u64) -> Vec<u8> {
+fn random_operand(r: &mut Rng, slip: u64) -> Vec<u8> {
     let test = random_test(r);
     if !r.pct(slip) {
         return test;
@@ -291,7 +323,11 @@ pub fn random(r: &mut Rng, slip: u64) -> Packets {
     let core = random_core(r, slip);
     let (count, fields) = cores::read(&core, u64::MAX).map_or((10, 5), |listing| (listing.records.len() as u64, listing.fields));
     let (bytes, lengths) = random_lent(r, (fields as u64).div_ceil(8).min(LONGEST), slip);
-    let room = if r.pct(slip / 3) { 3 * count - 1 } else { 3 * count + r.below(9) };
+    let room = match r.below(100) {
+        0..=3 if r.pct(4 * slip) => 3 * count - 1,
+        4..=7 if r.pct(4 * slip) => r.below(3 * count),
+        _ => 3 * count + r.below(9),
+    };
     Packets { core, room, bytes, lengths }
 }
 
@@ -308,12 +344,16 @@ fn with_causes(r: &mut Rng, causes: u32) -> Packets {
     if caused(48) {
         records = not_a_test(r, records);
     }
+    if r.bool() {
+        records.splice(0..0, [[INTERSECT as u32, 0, 0], [ZERO as u32, 0, 0]]);
+    }
     if caused(25) {
         records.splice(0..0, [[XOR as u32, 0, 0], [TEST as u32, u32::MAX, 0]]);
     }
     let mut core = cores::written(&records);
     core.extend(caused(8).then_some(0));
-    let room = 3 * records.len() as u64 - caused(10) as u64;
+    let needed = 3 * records.len() as u64;
+    let room = if caused(10) { r.below(needed) } else { needed };
     let count = if caused(49) { *r.pick(&[0, 65, 66]) } else { 1 + r.below(64) as usize };
     let mut lengths = vec![3; count];
     let mut bytes = random_bytes(r, 3 * count as u64);
@@ -361,16 +401,31 @@ fn chains(r: &mut Rng, kind: u8, links: usize) -> [Vec<Record>; 2] {
     [left, [right, vec![leaf()]].concat()]
 }
 
-/// Chains of 65,533 records, of as many as a core may have, and of more.
+/// Chains of 65,533 records, of as many as a core may have, and of more; the first also below an operator whose left operand leaves no
+/// packet, and so with the top field or with an atom that no test has at the end.
 fn largest(stats: &mut Stats, r: &mut Rng) {
     for links in [32_766, 32_767, 32_768] {
         for kind in UNION..=SEQUENCE {
             for records in chains(r, kind, links) {
-                let room = 3 * records.len() as u64;
-                case(stats, &Packets { core: cores::written(&records), room, bytes: telling_packets(r), lengths: vec![3; MAX_PACKETS] });
+                large(stats, r, &records);
+                if links == 32_766 {
+                    let operator = [INTERSECT as u32 + r.below(4) as u32, 0, 0];
+                    let mut settled = [&[operator, [ZERO as u32, 0, 0]], &records[..]].concat();
+                    let last = settled.len() - 1;
+                    large(stats, r, &settled);
+                    settled[last][1] = u32::MAX;
+                    large(stats, r, &settled);
+                    settled[last] = [DUP as u32, 0, 0];
+                    large(stats, r, &settled);
+                }
             }
         }
     }
+}
+
+fn large(stats: &mut Stats, r: &mut Rng, records: &[Record]) {
+    let (core, room) = (cores::written(records), 3 * records.len() as u64);
+    case(stats, &Packets { core, room, bytes: telling_packets(r), lengths: vec![3; MAX_PACKETS] });
 }
 
 /// The largest cores; every set of causes of a refusal; `count` random calls.
