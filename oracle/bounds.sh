@@ -18,7 +18,7 @@ differences=0
 "$oracle" replay vectors/bounds.txt || differences=1
 python3 second.py "$lines/all.txt" || differences=1
 
-# replay reads the file `cases` of the folder that it runs in, up to 262,144 bytes
+# replay reads the file `cases` of the folder that it runs in, up to 393,216 bytes
 split -l 2500 "$lines/all.txt" "$lines/part."
 for part in "$lines"/part.*; do
     python3 ../tools/cases.py "$part" > "$lines/cases" || exit 2

@@ -15,6 +15,12 @@ const MARK: u8 = 165;
 // The widest field of a range pattern.
 const MAX_RANGE_BITS: u32 = 128;
 
+// The most lengths of packets in a case.
+const LENGTHS: usize = 320;
+
+// The operation that reads a core back.
+const READ: u8 = 9;
+
 // What each number of work memory is before a call: its answer does not depend on it. A list of records has the same number everywhere;
 // each of its bytes is MARK.
 const USED: u32 = 0xa5a5_a5a5;
@@ -303,12 +309,83 @@ fn recorded(
     agree(expected(case), got) && same_numbers(list, want)
 }
 
+// Writes the numbers whose bytes these are, as far as there is room.
+fn numbers(bytes: &[u8], out: &mut [u32]) {
+    let mut i = 0;
+    let mut at = 0;
+    while i < out.len() {
+        if bytes.len() - at < 4 {
+            return;
+        }
+        out[i] = field(bytes, at);
+        i += 1;
+        at += 4;
+    }
+}
+
+// Packets through a core, with a list of `room` numbers. Before the packets stand their lengths, so many of them.
+fn packets_run(core: &[u8], list: &mut [u32], room: usize, lent: &[u8], count: usize) -> Answer {
+    if LENGTHS < count {
+        return none();
+    }
+    if lent.len() < 4 * count {
+        return none();
+    }
+    if list.len() < room {
+        return none();
+    }
+    let mut lengths = [0; 320];
+    numbers(lent, &mut lengths);
+    netkat::records::netkat_run_packets(
+        core,
+        &mut list[0..room],
+        &lent[4 * count..],
+        &lengths[0..count],
+    )
+}
+
+// Whether packets agree that go through the core that groups stand for: the answer, and the marks behind the list, which is scratch.
+fn passed(
+    case: Case,
+    groups: &[u8],
+    lent: &[u8],
+    core: &mut [u8],
+    list: &mut [u32],
+    marks: &[u8],
+) -> bool {
+    let room = case.room as usize;
+    let n = unpacked(groups, core);
+    if core.len() < n {
+        return false;
+    }
+    let got = packets_run(&core[0..n], list, room, lent, case.allowance as usize);
+    if list.len() < room {
+        return false;
+    }
+    agree(expected(case), got) && same_numbers(&list[room..], marks)
+}
+
+// A case with a core and a list: one that is read back, or one with packets.
+fn listed(
+    case: Case,
+    groups: &[u8],
+    other: &[u8],
+    core: &mut [u8],
+    list: &mut [u32],
+    want: &mut [u8],
+) -> bool {
+    if case.operation == READ {
+        return recorded(case, groups, other, core, list, want);
+    }
+    passed(case, groups, other, core, list, want)
+}
+
 // The same, with memory for the longest core, of 294,910 bytes, and for its 196,605 numbers.
-fn recorded_anew(case: Case, groups: &[u8], records: &[u8]) -> bool {
+fn listed_anew(case: Case, groups: &[u8], other: &[u8]) -> bool {
     let mut core = [0; 300000];
     let mut list = [USED; 200064];
     let mut want = [MARK; 800256];
-    recorded(case, groups, records, &mut core, &mut list, &mut want)
+    listed(case, groups, other, &mut core, &mut list, &mut want)
 }
 
 fn order_number(order: Order) -> u32 {
@@ -367,7 +444,7 @@ fn agrees(case: Case, term: &[u8], replacement: &[u8], result: &[u8]) -> bool {
             bounds(term, case.work, replacement, case.room, case.allowance),
         ),
         8 => agree(expected(case), costed(term, replacement)),
-        9 => recorded_anew(case, term, replacement),
+        9..=10 => listed_anew(case, term, replacement),
         _ => false,
     }
 }
@@ -461,7 +538,7 @@ fn main() {
         os::fail(path);
         return;
     }
-    let mut bytes = [0; 262144];
+    let mut bytes = [0; 393216];
     let n = io::read_full(fd, &mut bytes);
     libc::close(fd);
     let tally = run_all(&bytes[..n]);
