@@ -1,6 +1,6 @@
 #!/bin/sh
 # Instructions of one call of each operation on terms of growing size, and of reading their cores back, then of Check on range patterns of growing
-# width, then of Cost and Desugar on one match, counted by valgrind's callgrind: they repeat.
+# width, then of Cost and Desugar on one match, then of 64 packets in one pass, counted by valgrind's callgrind: they repeat.
 # Needs what bench/run.sh needs, and valgrind.
 here=$(dirname "$0")/../oracle
 . "$here/prepare.sh"
@@ -60,5 +60,17 @@ for match in dearest middle prefix; do
         # a match is asked twice, with other bytes behind its literals
         cost=$(($(instructions netkat_cost "$term") / 2)) desugar=$(instructions netkat_desugar "$term")
         echo "| $match | $width | $3 | $cost | $desugar | $((desugar / cost)) |"
+    done
+done
+
+echo
+echo "| access list | core bytes | records | 64 packets | for each record | read, for each record |"
+echo "|---|---|---|---|---|---|"
+for packets in captured passing; do
+    for entries in 6 12 24 48 96 192; do
+        term=$terms/packets_$packets-$entries.bin
+        set -- $("$oracle" once "$term")
+        run=$(instructions netkat_run_packets "$term")
+        echo "| $entries entries, $packets | $2 | $4 | $run | $(per "$run" "$4") | $(each netkat_read_core "$4" "$term") |"
     done
 done

@@ -1,13 +1,16 @@
-//! Times of the port and of the original, on policies of a folder and of policies.rs; terms of growing size, to count instructions on.
+//! Times of the port and of the original, on policies of a folder and of policies.rs; terms of growing size, to count instructions on. The
+//! times of packets are in captures.rs.
 use crate::costs::Match;
 use crate::desugar::desugar;
 use crate::expr::Expr;
 use crate::model::{decode, desugar_walk, work_needed, Env, Meter, RANGEMATCH};
-use crate::{original, policies, port};
+use crate::policies::PACKET_BYTES;
+use crate::{captures, original, policies, port};
 use std::hint::black_box;
+use std::path::Path;
 use std::time::Instant;
 
-const ALLOWANCE: u64 = 65535;
+pub const ALLOWANCE: u64 = 65535;
 const LONGEST_CORE: usize = 7 * 65535;
 const ROUNDS: usize = 41;
 /// Calls are timed together until they take about this long.
@@ -77,7 +80,7 @@ fn by_original(term: &[u8], out: &mut Vec<u8>) {
 }
 
 /// Microseconds of one call, from `calls` of them. What a call gives is freed outside the time.
-fn microseconds<T>(calls: usize, mut call: impl FnMut() -> T) -> f64 {
+pub fn microseconds<T>(calls: usize, mut call: impl FnMut() -> T) -> f64 {
     let mut kept = Vec::with_capacity(calls);
     let begin = Instant::now();
     for _ in 0..calls {
@@ -114,14 +117,14 @@ fn spread(ratios: Vec<f64>) -> String {
     format!("{median:.3} ({low:.3} to {high:.3})")
 }
 
-/// How many calls to time together.
-fn calls_of(p: &Policy, what: usize, b: &mut Buffers) -> usize {
-    (BATCH_MICROSECONDS / measure(p, what, 2, b)).ceil().clamp(1.0, 5000.0) as usize
+/// How many calls to time together, of which one takes about so long.
+fn calls_of(microseconds: f64) -> usize {
+    (BATCH_MICROSECONDS / microseconds).ceil().clamp(1.0, 5000.0) as usize
 }
 
 /// The time of one policy over that of another, in the same rounds; every other round goes in the opposite order.
 fn beside(p: &Policy, other: &Policy, what: usize, b: &mut Buffers) -> String {
-    let calls = calls_of(other, what, b);
+    let calls = calls_of(measure(other, what, 2, b));
     let mut ratios = Vec::new();
     for round in 0..ROUNDS {
         let mut times = [0.0; 2];
@@ -134,17 +137,17 @@ fn beside(p: &Policy, other: &Policy, what: usize, b: &mut Buffers) -> String {
 }
 
 /// The microseconds of some of what is timed, by index, round by round.
-struct Rounds(Vec<[f64; TIMED]>);
+pub struct Rounds(Vec<[f64; TIMED]>);
 
 impl Rounds {
-    /// Every other round goes in the opposite order.
-    fn of(p: &Policy, timed: &[usize], b: &mut Buffers) -> Rounds {
-        let mut order: Vec<(usize, usize)> = timed.iter().map(|&what| (what, calls_of(p, what, b))).collect();
+    /// `measure` gives the microseconds of one call, from so many. Every other round goes in the opposite order.
+    pub fn of(timed: &[usize], mut measure: impl FnMut(usize, usize) -> f64) -> Rounds {
+        let mut order: Vec<(usize, usize)> = timed.iter().map(|&what| (what, calls_of(measure(what, 2)))).collect();
         let mut all = Vec::new();
         for _ in 0..ROUNDS {
             let mut times = [0.0; TIMED];
             for &(what, calls) in &order {
-                times[what] = measure(p, what, calls, b);
+                times[what] = measure(what, calls);
             }
             all.push(times);
             order.reverse();
@@ -153,19 +156,19 @@ impl Rounds {
     }
 
     /// The median.
-    fn time(&self, what: usize) -> String {
+    pub fn time(&self, what: usize) -> String {
         let median = quartiles(self.0.iter().map(|t| t[what]).collect())[1];
         if median < 10.0 { format!("{median:.2}") } else { format!("{median:.0}") }
     }
 
-    fn ratio(&self, what: usize, over: usize) -> String {
+    pub fn ratio(&self, what: usize, over: usize) -> String {
         spread(self.0.iter().map(|t| t[what] / t[over]).collect())
     }
 }
 
 /// The policy's line of the first table.
 fn writing_row(p: &Policy, b: &mut Buffers) {
-    let r = Rounds::of(p, &WRITING, b);
+    let r = Rounds::of(&WRITING, |what, calls| measure(p, what, calls, b));
     let large = p.nodes >= MANY_NODES;
     let copy = if large { r.time(COPY) } else { "-".into() };
     let copies = if large { r.ratio(PORT, COPY) } else { "-".into() };
@@ -178,7 +181,7 @@ fn writing_row(p: &Policy, b: &mut Buffers) {
 
 /// The policy's line of the second table.
 fn reading_row(p: &Policy, b: &mut Buffers) {
-    let r = Rounds::of(p, &READING, b);
+    let r = Rounds::of(&READING, |what, calls| measure(p, what, calls, b));
     println!(
         "| {} | {} | {} | {} | {} | {} | {} | {} |",
         p.name, p.core.len(), p.nodes, r.time(READ), r.time(PORT), r.time(DECODE), r.ratio(READ, PORT), r.ratio(READ, DECODE)
@@ -211,6 +214,7 @@ pub fn run(folder: &str) -> bool {
     for (name, term) in load(folder) {
         reading_row(&prepare(name, term, &mut b), &mut b);
     }
+    captures::table();
     let [long, two, words] = policies::label_stack_policies().map(|(name, term)| prepare(name, term, &mut b));
     println!();
     for other in [two, words] {
@@ -220,17 +224,26 @@ pub fn run(folder: &str) -> bool {
     true
 }
 
-/// Writes the growing policies of policies.rs to a folder, a file each.
+/// Writes the growing policies of policies.rs to a folder, a file each, and for access lists that are tests a file of packets beside it.
 pub fn terms(folder: &str) -> bool {
+    let write = |file: String, bytes: Vec<u8>| {
+        let path = format!("{folder}/{file}");
+        std::fs::write(&path, bytes).unwrap_or_else(|e| panic!("{path}: {e}"));
+    };
     for (name, term) in policies::growing() {
-        let path = format!("{folder}/{name}.bin");
-        std::fs::write(&path, term).unwrap_or_else(|e| panic!("{path}: {e}"));
+        write(format!("{name}.bin"), term);
+    }
+    for count in [6, 12, 24, 48, 96, 192] {
+        for (family, traffic) in ["packets_captured", "packets_passing"].iter().zip(policies::traffic(count)) {
+            write(format!("{family}-{count}.bin"), traffic.test);
+            write(format!("{family}-{count}.packets"), traffic.packets);
+        }
     }
     true
 }
 
 /// One call of each operation of the port, for a tool that counts instructions: prints the term's bytes, the core's bytes, the drawn total and
-/// the core's records. Substitute replaces a variable that no term here has.
+/// the core's records. Substitute replaces a variable that no term here has. Packets are those of the file beside the term, if there is one.
 pub fn once(path: &str) -> bool {
     let term = std::fs::read(path).unwrap_or_else(|e| panic!("{path}: {e}"));
     let mut work = vec![0; work_needed(ALLOWANCE) as usize];
@@ -240,6 +253,10 @@ pub fn once(path: &str) -> bool {
     let figures = made.and_then(|(length, drawn)| {
         port::read_core_into(&out[..length as usize], &mut list).map(|(count, _)| format!("{length} {drawn} {count}"))
     });
+    if let (Ok((length, _)), Ok(packets)) = (made, std::fs::read(Path::new(path).with_extension("packets"))) {
+        let lengths = vec![PACKET_BYTES as u32; packets.len() / PACKET_BYTES];
+        port::run_packets_into(&out[..length as usize], &mut list, &packets, &lengths).expect("packets that run");
+    }
     match figures {
         Ok(figures) => println!("{} {figures}", term.len()),
         Err((number, place)) => println!("{path}: refused by {number} at {place}"),

@@ -7,6 +7,7 @@ pub mod pre {
 include!(concat!(env!("OUT_DIR"), "/modules.rs"));
 mod bench;
 mod bounds;
+mod captures;
 mod compare;
 mod cores;
 mod costs;

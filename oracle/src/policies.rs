@@ -51,25 +51,102 @@ fn joined(kind: u8, mut items: Vec<Node>) -> Node {
     two(kind, joined(kind, items), joined(kind, back))
 }
 
+const SERVICES: [u32; 8] = [22, 53, 80, 123, 443, 3306, 5432, 8080];
+
+/// What an entry of an access list says of a field.
+#[derive(Clone, Copy)]
+enum Part {
+    Prefix(u32, u8),
+    Range(u32, u32),
+    Exact(u32),
+}
+
+impl Part {
+    fn matched(self, name: u16, width: usize) -> Node {
+        match self {
+            Part::Prefix(address, length) => prefix(name, address, length),
+            Part::Range(from, to) => range(name, width, from, to),
+            Part::Exact(value) => Node { kind: VARMATCH, name, a: literal(value, width), ..Node::default() },
+        }
+    }
+
+    /// A random value that it holds of.
+    fn value(self, r: &mut Rng) -> u32 {
+        match self {
+            Part::Prefix(address, length) => {
+                let free = u32::MAX >> length;
+                address & !free | r.next() as u32 & free
+            }
+            Part::Range(from, to) => from + r.below((to - from) as u64 + 1) as u32,
+            Part::Exact(value) => value,
+        }
+    }
+}
+
+/// Source, destination, port.
+type Entry = [Part; 3];
+
 /// `count` entries: a source prefix, a destination prefix or, in each tenth, an address range, and a port or, in each eighth, a port range.
-fn access_list(count: u32) -> Node {
+fn access_entries(count: u32) -> Vec<Entry> {
     let mut r = Rng::new(1);
-    let entries = (0..count)
-        .map(|i| {
-            let source = prefix(SRC, 0x0a00_0000 | r.below(1 << 24) as u32, 16 + r.below(9) as u8);
-            let network = 0xc0a8_0000 | (r.below(256) as u32) << 8;
-            let destination = match i % 10 {
-                9 => range(DST, 32, network + 1 + r.below(20) as u32, network + 100 + r.below(100) as u32),
-                _ => prefix(DST, network, 24),
-            };
-            let port = match i % 8 {
-                7 => range(PORT, 16, 1024 * (1 + r.below(8) as u32), 32767 + 1024 * r.below(8) as u32),
-                _ => port_is(*r.pick(&[22, 53, 80, 123, 443, 3306, 5432, 8080])),
-            };
-            two(INTERSECT, source, two(INTERSECT, destination, port))
-        })
-        .collect();
-    with_aliases(two(SEQUENCE, joined(UNION, entries), send_to(1)))
+    let entry = |i| {
+        let source = Part::Prefix(0x0a00_0000 | r.below(1 << 24) as u32, 16 + r.below(9) as u8);
+        let network = 0xc0a8_0000 | (r.below(256) as u32) << 8;
+        let destination = match i % 10 {
+            9 => Part::Range(network + 1 + r.below(20) as u32, network + 100 + r.below(100) as u32),
+            _ => Part::Prefix(network, 24),
+        };
+        let port = match i % 8 {
+            7 => Part::Range(1024 * (1 + r.below(8) as u32), 32767 + 1024 * r.below(8) as u32),
+            _ => Part::Exact(*r.pick(&SERVICES)),
+        };
+        [source, destination, port]
+    };
+    (0..count).map(entry).collect()
+}
+
+fn any_entry(count: u32) -> Node {
+    let entry = |[source, destination, port]: Entry| {
+        two(INTERSECT, source.matched(SRC, 32), two(INTERSECT, destination.matched(DST, 32), port.matched(PORT, 16)))
+    };
+    joined(UNION, access_entries(count).into_iter().map(entry).collect())
+}
+
+fn access_list(count: u32) -> Node {
+    with_aliases(two(SEQUENCE, any_entry(count), send_to(1)))
+}
+
+/// The bytes of a packet: source, destination and port, as the aliases have them.
+pub const PACKET_BYTES: usize = 10;
+
+fn packet(source: u32, destination: u32, port: u32) -> Vec<u8> {
+    [&source.to_le_bytes()[..], &destination.to_le_bytes(), &port.to_le_bytes()[..2]].concat()
+}
+
+/// An access list as a test, and packets end to end to run through it.
+pub struct Traffic {
+    pub name: String,
+    pub test: Vec<u8>,
+    pub packets: Vec<u8>,
+}
+
+/// The same access list with 64 packets twice. The first have random sources in 10.0.0.0/8, destinations in 192.168.0.0/16 and ports of the
+/// services; each of the others passes, by a random entry.
+pub fn traffic(count: u32) -> [Traffic; 2] {
+    let mut r = Rng::new(8);
+    let test = encoded(&with_aliases(any_entry(count)));
+    let capture = |r: &mut Rng| {
+        let (source, destination) = (0x0a00_0000 | r.below(1 << 24) as u32, 0xc0a8_0000 | r.below(1 << 16) as u32);
+        packet(source, destination, *r.pick(&SERVICES))
+    };
+    let entries = access_entries(count);
+    let passing = |r: &mut Rng| {
+        let [source, destination, port] = r.pick(&entries).map(|part| part.value(r));
+        packet(source, destination, port)
+    };
+    let captured = (0..64).flat_map(|_| capture(&mut r)).collect();
+    let passed = (0..64).flat_map(|_| passing(&mut r)).collect();
+    [("capture", captured), ("each passes", passed)].map(|(name, packets)| Traffic { name: name.into(), test: test.clone(), packets })
 }
 
 /// `count` entries, each a source prefix and a port: many small leaves.
