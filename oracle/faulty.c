@@ -122,7 +122,8 @@ netkat_answer netkat_read_core(const uint8_t *core, size_t core_len, uint32_t *r
     defined(PACKETS_STARTS_IN_32_BITS) || defined(PACKETS_XOR_AS_UNION) || defined(PACKETS_OPERANDS_EXCHANGED) || \
     defined(PACKETS_UNUSED_BIT) || defined(PACKETS_HALVES_EXCHANGED) || defined(PACKETS_LAST_LOST) || defined(PACKETS_50_BEFORE_49) || \
     defined(PACKETS_48_BEFORE_10) || defined(PACKETS_50_AT_0) || defined(PACKETS_DEPTH) || defined(PACKETS_LIST_COUNTS) || \
-    defined(PACKETS_BEHIND_LIST) || defined(PACKETS_CHANGED)
+    defined(PACKETS_BEHIND_LIST) || defined(PACKETS_CHANGED) || defined(PACKETS_LOW_FIELD_BITS) || defined(PACKETS_SKIPPED_FORM) || \
+    defined(PACKETS_SKIPPED_KIND) || defined(PACKETS_SKIPPED_FIELD)
 #include <stdlib.h>
 #include <string.h>
 typedef struct {
@@ -150,7 +151,7 @@ static lent copied(const uint8_t *packets, size_t packets_len, const uint32_t *l
     return made;
 }
 
-#if defined(PACKETS_XOR_AS_UNION) || defined(PACKETS_OPERANDS_EXCHANGED)
+#if defined(PACKETS_XOR_AS_UNION) || defined(PACKETS_OPERANDS_EXCHANGED) || defined(PACKETS_LOW_FIELD_BITS)
 /* The end of the record at `at`, and its kind. */
 static size_t record_end(const uint8_t *core, size_t at, uint8_t *kind) {
     uint8_t map = core[at++];
@@ -197,6 +198,25 @@ netkat_answer netkat_run_packets(const uint8_t *core, size_t core_len, uint32_t 
         }
         a = true_run_packets(changed, core_len, records, records_len, packets, packets_len, lengths, lengths_len);
     }
+#elif defined(PACKETS_LOW_FIELD_BITS)
+    if (a.number == 0) {
+        for (size_t at = 0; at < core_len;) {
+            size_t end = record_end(core, at, &kind);
+            if (end - at > 5 && core[at + 2] != 0) changed[at + 3] = 0; /* of four bytes the second */
+            at = end;
+        }
+        a = true_run_packets(changed, core_len, records, records_len, packets, packets_len, lengths, lengths_len);
+    }
+#elif defined(PACKETS_SKIPPED_FORM) || defined(PACKETS_SKIPPED_KIND) || defined(PACKETS_SKIPPED_FIELD)
+    /* the right operand of an Intersect of Zero is not looked at */
+#if defined(PACKETS_SKIPPED_FORM)
+    int missed = a.number < 6 || a.number == 25 || a.number == 41;
+#elif defined(PACKETS_SKIPPED_KIND)
+    int missed = a.number == 48;
+#else
+    int missed = a.number == 50;
+#endif
+    if (missed && core_len > 3 && core[0] == 1 && core[1] == 8 && core[2] == 0) a = (netkat_answer){0, 0, 0, 0};
 #elif defined(PACKETS_OPERANDS_EXCHANGED)
     /* of a Difference at the root */
     if (a.number == 0 && core[0] == 1 && core[1] == 10) {

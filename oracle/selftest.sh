@@ -224,6 +224,10 @@ port PACKETS_DEPTH run_packets
 port PACKETS_LIST_COUNTS run_packets
 port PACKETS_BEHIND_LIST run_packets
 port PACKETS_CHANGED run_packets
+port PACKETS_LOW_FIELD_BITS run_packets
+port PACKETS_SKIPPED_FORM run_packets
+port PACKETS_SKIPPED_KIND run_packets
+port PACKETS_SKIPPED_FIELD run_packets
 model "65 packets" PORT \
     'if !(1..=MAX_PACKETS).contains(&p.lengths.len()) {' \
     'if !(1..=65).contains(&p.lengths.len()) {' \

@@ -18,6 +18,8 @@ const LONGEST: u64 = 600;
 /// How many rounds there are of the largest cores, and of causes of refusal that meet.
 const LARGEST_ROUNDS: u64 = 2;
 const CAUSE_ROUNDS: u64 = 100;
+/// How many calls of a hundred have a core, packets or a list that is careless.
+const CARELESS: u64 = 20;
 /// Of many bytes only these many are shown.
 const SHOWN: usize = 200;
 
@@ -245,18 +247,18 @@ fn below_operator(r: &mut Rng, core: Vec<u8>) -> Vec<u8> {
 }
 
 /// A test, or what is made of one; some of them below operators.
-fn random_core(r: &mut Rng, slip: u64) -> Vec<u8> {
-    let mut core = random_operand(r, slip);
+fn random_core(r: &mut Rng) -> Vec<u8> {
+    let mut core = random_operand(r);
     while r.pct(20) {
         core = below_operator(r, core);
     }
     core
 }
 
-/// A test, or, as often as `slip` says, what cores that are read back are made of, a damaged test, or a test of a high field.
-fn random_operand(r: &mut Rng, slip: u64) -> Vec<u8> {
+/// A test, or, if careless, what cores that are read back are made of, no test, a damaged test, or a test of a high field.
+fn random_operand(r: &mut Rng) -> Vec<u8> {
     let test = random_test(r);
-    if !r.pct(slip) {
+    if !r.pct(CARELESS) {
         return test;
     }
     match r.below(4) {
@@ -285,14 +287,14 @@ fn not_a_test(r: &mut Rng, mut records: Vec<Record>) -> Vec<Record> {
 }
 
 /// How many packets.
-fn random_count(r: &mut Rng, slip: u64) -> u64 {
+fn random_count(r: &mut Rng) -> u64 {
     match r.below(20) {
         0 | 1 => 1,
         2 | 3 => 64,
         4 => 63,
         5 => 33,
         6 => 32,
-        7 if r.pct(4 * slip) => *r.pick(&[0, 65, 66, 100, 257]),
+        7 => *r.pick(&[0, 65, 66, 100, 257]),
         _ => 1 + r.below(16),
     }
 }
@@ -303,9 +305,9 @@ fn random_bytes(r: &mut Rng, count: u64) -> Vec<u8> {
 
 /// Packets for a core that needs so many bytes of each: some with more; if careless, some with fewer or with a length that passes 32 bits
 /// together with the next, or the slice ends early.
-fn random_lent(r: &mut Rng, needed: u64, slip: u64) -> (Vec<u8>, Vec<u32>) {
-    let careless = r.pct(slip);
-    let count = random_count(r, slip);
+fn random_lent(r: &mut Rng, needed: u64) -> (Vec<u8>, Vec<u32>) {
+    let careless = r.pct(CARELESS);
+    let count = random_count(r);
     let length = |r: &mut Rng| match r.below(100) {
         0..=9 if careless => needed.saturating_sub(1),
         10..=12 if careless => *r.pick(&[0, 1 << 31, u32::MAX as u64 - 1, u32::MAX as u64]),
@@ -318,14 +320,14 @@ fn random_lent(r: &mut Rng, needed: u64, slip: u64) -> (Vec<u8>, Vec<u32>) {
     (random_bytes(r, held), lengths)
 }
 
-/// A random call; as often, out of a hundred, as `slip` says, one of its parts is careless.
-pub fn random(r: &mut Rng, slip: u64) -> Packets {
-    let core = random_core(r, slip);
+/// A random call.
+pub fn random(r: &mut Rng) -> Packets {
+    let core = random_core(r);
     let (count, fields) = cores::read(&core, u64::MAX).map_or((10, 5), |listing| (listing.records.len() as u64, listing.fields));
-    let (bytes, lengths) = random_lent(r, (fields as u64).div_ceil(8).min(LONGEST), slip);
+    let (bytes, lengths) = random_lent(r, (fields as u64).div_ceil(8).min(LONGEST));
     let room = match r.below(100) {
-        0..=3 if r.pct(4 * slip) => 3 * count - 1,
-        4..=7 if r.pct(4 * slip) => r.below(3 * count),
+        0..=2 => 3 * count - 1,
+        3..=5 => r.below(3 * count),
         _ => 3 * count + r.below(9),
     };
     Packets { core, room, bytes, lengths }
@@ -440,7 +442,7 @@ pub fn compared(seed: u64, count: u64) -> Stats {
     }
     for i in 0..count {
         let mut r = Rng::new(seed.wrapping_mul(0x1_0000_0015).wrapping_add(i));
-        case(&mut stats, &random(&mut r, 20));
+        case(&mut stats, &random(&mut r));
     }
     stats
 }

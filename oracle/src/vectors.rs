@@ -240,7 +240,7 @@ fn random_case(r: &mut Rng, budget: i64) -> Case {
             let (core, room) = cores::random(r);
             return Case::Read(core, room);
         }
-        10..=14 => return Case::Packets(packets::random(r, 20)),
+        10..=14 => return Case::Packets(packets::random(r)),
         _ => {}
     }
     let term = random_term(r, budget);
