@@ -126,6 +126,7 @@ netkat_answer netkat_read_core(const uint8_t *core, size_t core_len, uint32_t *r
     defined(PACKETS_SKIPPED_KIND) || defined(PACKETS_SKIPPED_FIELD)
 #include <stdlib.h>
 #include <string.h>
+/* packets end to end, and their lengths */
 typedef struct {
     uint8_t *bytes;
     size_t bytes_len;
@@ -137,7 +138,7 @@ netkat_answer true_run_packets(const uint8_t *core, size_t core_len, uint32_t *r
 
 /* The packets, each with `more` zeros behind it, and with zeros for what the slice lacks of it where `whole`. Starts are sums below `wrap`. */
 static lent copied(const uint8_t *packets, size_t packets_len, const uint32_t *lengths, size_t count, size_t more, int whole, uint64_t wrap) {
-    lent made = {calloc(1 << 20, 1), 0, {0}, count < 512 ? count : 512};
+    lent made = {calloc(count + 1, packets_len + 1001), 0, {0}, count < 512 ? count : 512};
     uint64_t begin = 0;
     for (size_t i = 0; i < made.count; i++) {
         size_t held = begin < packets_len ? packets_len - begin : 0;

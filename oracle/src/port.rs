@@ -196,7 +196,7 @@ fn among<T: Clone>(lent: &[T], other: T) -> Vec<T> {
     [&others, lent, &others].concat()
 }
 
-/// Each buffer is lent as the middle of one. Only the numbers of the list may change; its first ones differ with the bytes around.
+/// Each buffer is lent as the middle of one. Only the numbers of the list may change; what they are before differs with the bytes around.
 fn run_packets_among(p: &Packets, around: u8) -> Res<u64> {
     let other = u32::from_ne_bytes([around; 4]);
     let [core, packets] = [&p.core, &p.bytes].map(|bytes| among(bytes, around));
