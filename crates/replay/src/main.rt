@@ -336,7 +336,7 @@ fn packets_run(core: &[u8], list: &mut [u32], room: usize, lent: &[u8], count: u
     }
     let mut lengths = [0; 320];
     numbers(lent, &mut lengths);
-    netkat::records::netkat_run_packets(
+    netkat::run::netkat_run_packets(
         core,
         &mut list[0..room],
         &lent[4 * count..],
