@@ -81,7 +81,7 @@ uint32_t netkat_version(void);
 #define NETKAT_STACK_COMPUTE_SUBRANGE 4096   /* 48 measured */
 #define NETKAT_STACK_COST 4096               /* 352 measured */
 #define NETKAT_STACK_READ_CORE 4096          /* 248 measured */
-#define NETKAT_STACK_RUN_PACKETS 16384       /* to be measured */
+#define NETKAT_STACK_RUN_PACKETS 8192        /* 4472 measured */
 
 /* The numbers of refusals. 43 to 47 and 51 to 54 are kept for functions to come. */
 enum netkat_refusal {

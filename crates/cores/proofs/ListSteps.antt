@@ -43,7 +43,7 @@ words-put (atom a) n cs = refl
 words-put (unary o) n cs = refl
 words-put (binary o) n cs = ap (λ (l : List ℕ). op2Kind o ∷ 0 ∷ 0 ∷ l) (append-assoc (words (cs .0)) (words (cs .1 .0)) (wordsOf n (cs .1 .1)))
 
-abbrev pub threeOf : Record → List ℕ
+abbrev threeOf : Record → List ℕ
 threeOf h = h .kind ∷ h .start ∷ h .number ∷ []
 
 atom-words : (a : Atom) → nodeWords (atom a) ≡ threeOf (atomRecord a)

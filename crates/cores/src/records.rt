@@ -51,21 +51,21 @@ fn read_any(s: &[u8]) -> RecordRead
 }
 
 // Whether these are the map and the kind of an operator.
-fn is_operator(map: u8, kind: u8) -> bool
+pub fn is_operator(map: u8, kind: u8) -> bool
     ensures { λ r. ⌜ r ≡ operatorBytes map kind ⌝ }
 {
     (map == 1) & ((7 <= kind) & (kind <= 15))
 }
 
 // Whether these are the map, the kind, the field and, where the map has it, the value of an Assign or Test with a field that stands.
-fn is_atom(map: u8, kind: u8, field: u32, value: u8) -> bool
+pub fn is_atom(map: u8, kind: u8, field: u32, value: u8) -> bool
     ensures { λ r. ⌜ r ≡ atomBytes map kind field value ⌝ }
 {
     ((map == 5) | ((map == 37) & (value == 1))) & (((kind == 5) | (kind == 6)) & (field != 0))
 }
 
 // The number of four bytes, the lowest first.
-fn number_of(a: u8, b: u8, c: u8, d: u8) -> u32
+pub fn number_of(a: u8, b: u8, c: u8, d: u8) -> u32
     ensures { λ r. ⌜ r ≡ a + 256 * (b + 256 * (c + 256 * d)) ⌝ }
 {
     a as u32 + 256 * (b as u32 + 256 * (c as u32 + 256 * (d as u32)))
@@ -108,7 +108,7 @@ pub fn read_short(s: &[u8], at: usize) -> CoreRecord
     }
 }
 
-// The record at an index, where read_short found it or not. Two functions, because the compiler puts both into each of the two loops that read
+// The record at an index, where read_short found it or not. Two functions, because the compiler puts both into each loop that reads
 // records, and would put in neither if they were one.
 pub fn read_core_record(short: CoreRecord, s: &[u8], at: usize) -> RecordRead
     requires { ⌜ at ≤ length (now s) ⌝ }

@@ -114,8 +114,8 @@ OneStep env (Ranged w u) = Unit {0}
 
 -- ## Tests
 
--- whether a core that is a test relates a packet to itself, by computing: proofs/Tests.antt has that it says what `coreMeans` does. Of other cores it
--- says nothing
+-- whether a test lets a packet pass, by computing: an atom, an operator by its operands, a core. proofs/Tests.antt has that a core which is a test
+-- relates a packet to itself exactly if this says so; what is no test lets nothing pass
 abbrev pub passesAtom : Atom → Packet → Bool
 passesAtom Zero p = false
 passesAtom One p = true

@@ -115,7 +115,7 @@ never-zero (Substitute bs x rs) room = cause-named (substitute-decided bs x rs r
 never-zero (Subrange a b s e) room = cause-named (subrange-decided a b s e)
 never-zero (Cost s e p k a b) room = cause-named (cost-decided s e p k a b)
 never-zero (ReadCore bs) room = cause-named (core-decided bs room)
-never-zero (RunPackets bs room ps ns) none = cause-named (packets-decided bs room ps ns)
+never-zero (RunPackets bs list ps ns) room = cause-named (packets-decided bs list ps ns)
 
 -- ## Demand 2
 

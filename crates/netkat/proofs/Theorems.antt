@@ -6,7 +6,7 @@ use mathlib.Core.Logic.{_↔_}
 use mathlib.Core.Bool.{Bool, true, false, cond, not}
 use mathlib.Core.Option.{some}
 use mathlib.Core.List.{List, [], _∷_, map, List·Memᴰ}
-use Prim.Native.Nat.{ℕ, _+_, _-_, _^_, _≤_, _<_}
+use Prim.Native.Nat.{ℕ, _+_, _-_, _/_, _%_, _^_, _≤_, _<_}
 use native.Mathlib.Nat.{zero-add}
 use native.Mathlib.Numerals.{add-one}
 use lib.Dec.{leb}
@@ -15,6 +15,7 @@ use Rattle.literals.specs.Bits.{Bits, Bytes, bit, bitAt, bitsOf}
 use Rattle.literals.specs.Comparing.{SameTop, StopsWhenDecided, lookedAt}
 use Rattle.literals.specs.Patterns.{IpRange, Pattern}
 use Rattle.literals.specs.Reading.{fault, literal}
+use Rattle.literals.proofs.Bits.{bit-of-bytes}
 use Rattle.literals.proofs.Codec.{literal-limit}
 use Rattle.literals.proofs.Comparing.{looked-first, looked-none, stops-when-decided}
 use Rattle.expr.specs.Answers.{mapAnswer, ok, refuse}
@@ -39,7 +40,7 @@ use Rattle.cores.specs.Reading.{CoreWithin, decodeCore, intoList, readCore, rea
 use Rattle.cores.proofs.CoreForm.{core-exact, decode-many, equal-records, read-back}
 use Rattle.cores.proofs.CoreTerms.{core-as-term, same-fields}
 use Rattle.packets.specs.Claims.{EachBit, PacketsNumber, total}
-use Rattle.packets.specs.Running.{packetBytes, runPackets}
+use Rattle.packets.specs.Running.{packetBytes, packetOf, runPackets}
 use Rattle.packets.proofs.Meaning.{packet-lies, ran-alone, ran-as, ran-means, ran-small, ran-unused}
 use Rattle.netkat.specs.Check.{RulesHold, check, checkBytes, firstFailure, testSort}
 use Rattle.netkat.specs.Claims.{Accepted, AtPoint, CostNumber, Desugared, Desugars, Good, Inside, PointAt, RangeLimit, Refusal, TakesWhole}
@@ -415,6 +416,10 @@ each-bit-theorem others core room slice lengths m e = ran-means (ran-as core roo
 pub unused-bits-theorem : (core : List ℕ) (room : ℕ) (slice lengths : List ℕ) (m : ℕ) → runPackets core room slice lengths ≡ ok m
     → (m < 2 ^ 64) × ((i : ℕ) → length lengths ≤ i → bitAt i m ≡ false)
 unused-bits-theorem core room slice lengths m e = let r = ran-as core room slice lengths m e in (ran-small r, ran-unused r)
+
+-- "each packed with field 0 in the lowest bit of its first byte": field f is bit f % 8 of byte f / 8
+pub packed-theorem : (bytes : List ℕ) (f : ℕ) → packetOf bytes f ≡ bitAt (f % 8) (getD bytes (f / 8) 0)
+packed-theorem = bit-of-bytes
 
 -- "Packets lie end to end in one slice": packet i begins behind those before it, and is cut where the slice ends
 pub packet-lies-theorem : (i : ℕ) (lengths slice : List ℕ) → i < length lengths

@@ -82,7 +82,7 @@ pub data PacketsDeclined (bs : List ℕ) (room : ℕ) (slice lengths : List ℕ)
   short : (c : Core) (n i : ℕ) → readCore bs room ≡ ok (c, n) → isTest c ≡ true → (1 ≤ length lengths) × (length lengths ≤ maxPackets)
       → FirstShort n (packetBytes lengths slice) i → PacketsDeclined bs room slice lengths 50 i
 
--- "each by its number and place in document 01": a call with an answer buffer of room bytes, or a list of room numbers, is to be refused by a
+-- "each by its number and place in document 01": a call with an answer buffer of room bytes, or a record list of room numbers that it answers in, is to be refused by a
 -- number at a place. Those of form are `decode`'s (expr/specs/Form), `lentPattern`'s (costs/specs/Lent) and `decodeCore`'s
 -- (cores/specs/Reading), those of the rules `ruleAt`'s (Check)
 abbrev pub Declined : Call → (room number place : ℕ) → Type 0
@@ -94,7 +94,7 @@ Declined (Substitute bs x rs) room r p = SubstituteDeclined bs x rs room r p
 Declined (Subrange a b s e) room r p = ¬ SubrangeInside a b s e × (r ≡ 28) × (p ≡ 0)
 Declined (Cost s e p k a b) room r q = CostDeclined s e p k a b r q
 Declined (ReadCore bs) room r p = CoreDeclined bs room r p
-Declined (RunPackets bs room ps ns) none r p = PacketsDeclined bs room ps ns r p
+Declined (RunPackets bs list ps ns) room r p = PacketsDeclined bs list ps ns r p
 
 -- of an answer r, and the answer buffer before and after the call; declined says by which number and place the call is to be refused
 pub record Demand1 (declined : (number place : ℕ) → Type 0) (out out′ : List ℕ) (r : HostAnswer) : Type 0 where

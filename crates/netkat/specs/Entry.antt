@@ -44,7 +44,8 @@ pub data Call : Type 0 where
   RunPackets : (core : List ℕ) (room : ℕ) (packets lengths : List ℕ) → Call
 
 -- the contract of each exported function: r is its answer, out and out′ its answer buffer, or its record list, before and after the call. One
--- without either is lent nothing that it could write, or scratch: of the record list of Run packets nothing is said but its length. The first value of Check and Test fragment is 1 for yes and 0 for no
+-- without either is lent nothing that it could write; Run packets writes to its record list, which is scratch and no part of this: out and out′
+-- are empty. The first value of Check and Test fragment is 1 for yes and 0 for no
 abbrev pub Answers : Call → (out out′ : List ℕ) → HostAnswer → Type 0
 Answers (Check bs) out out′ r = (r ≡ hosted (mapAnswer (λ b. (bit b, 0)) (checkBytes bs))) × (out′ ≡ out)
 Answers (TestFragment bs) out out′ r = (r ≡ hosted (mapAnswer (λ b. (bit b, 0)) (fragmentBytes bs))) × (out′ ≡ out)

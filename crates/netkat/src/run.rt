@@ -1,4 +1,5 @@
 // Packets run through a core, as a host asks it.
+ghost use mathlib.Core.Path.{_≡_};
 ghost use mathlib.Core.List.{[]};
 ghost use lib.ListN.{length};
 ghost use Rattle.netkat.specs.Entry.{Answers, Call};
@@ -14,6 +15,7 @@ pub extern "C" fn netkat_run_packets(
     lengths: &[u32],
 ) -> Answer
     ensures { λ r. ⌜ Answers (Call.RunPackets (now (core .entry)) (length (now (records .entry))) (now (packets .entry)) (now (lengths .entry))) [] [] r ⌝ }
+    ensures { λ r. ⌜ length (now (records .exit)) ≡ length (now (records .entry)) ⌝ }
 {
     match packets::run_packets(core, records, packets, lengths) {
         Ran::Refused(number, at) => crate::answers::refused(number, at),

@@ -14,7 +14,7 @@ use Rattle.literals.specs.Bits.{bit}
 use Rattle.expr.specs.Results.{arityOf}
 use Rattle.expr.proofs.Arities.{arity-small}
 use Rattle.desugar.proofs.Regions.{head, tail, sets-below, stored}
-use Rattle.packets.specs.Results.{leafMask, combined, settles, Frame, first, second, maskAt, frameAt, framesIn, State, stateOf, skipping, fed, closedMask, opened, openedKind, looked, stepped, Stepped}
+use Rattle.packets.specs.Results.{leafMask, combined, settles, first, second, maskAt, frameAt, framesIn, State, stateOf, skipping, fed, closedMask, opened, openedKind, looked, stepped, Stepped}
 use Rattle.cores.specs.declared.records.CoreRecord.{CoreRecord}
 use Rattle.packets.specs.declared.frames.Progress.{Progress}
 

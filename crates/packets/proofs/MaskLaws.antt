@@ -1,26 +1,23 @@
 -- Masks, one bit for each packet: a record is one bitwise step.
 use mathlib.Core.Path.{_≡_, refl, sym, ap, _∙_}
-use mathlib.Core.Logic.{_↔_}
-use mathlib.Core.Bool.{Bool, true, false, not, cond, _&&_, _||_, Bool·beq, false≢true}
+use mathlib.Core.Bool.{Bool, true, false, not, _&&_, _||_, Bool·beq, false≢true}
 use mathlib.Core.List.{List, [], _∷_, map}
 use Prim.Native.Nat.{ℕ, zero, suc, _+_, _*_, _/_, _%_, _^_, _≤_, _<_, min, max}
 use native.Mathlib.Nat.{pow-succ'}
 use native.Mathlib.Omega.{arith}
 use lib.Bits.{bitAnd, bitOr, bitXor, differ, and-step, or-step, xor-step, and-zero-l}
 use lib.Dec.{eqb}
-use lib.ListN.{length, getD, set, replicate, length-map, length-set, List·getD-eq-default}
+use lib.ListN.{length, getD, set, replicate, length-map, length-set}
 use lib.Seq.{getD-set-same, getD-set-other}
 use lib.Pow.{pow-mono}
-use Rattle.literals.specs.Bits.{bit, valueOf, bitAt}
-use Rattle.literals.proofs.Bits.{value-below, bit-at-value}
+use Rattle.literals.specs.Bits.{bit, valueOf}
+use Rattle.literals.proofs.Bits.{value-below}
 use Rattle.literals.proofs.Logic.{and-left, and-right, eqb-is}
 use Rattle.expr.specs.Terms.{Atom, Zero, One, Top, Dup, End, Assign, Test, Op1, Complement, Star, LtlNext, Op2, Union, Intersect, Xor, Difference, Sequence, LtlUntil, Core, leaf, one, two, atomKind, op1Kind, op2Kind}
 use Rattle.desugar.specs.CoreRecords.{atomField, atomValue}
-use Rattle.desugar.specs.Negation.{isTest}
-use Rattle.desugar.specs.Packets.{Others, Packet, passes, coreMeans}
-use Rattle.desugar.proofs.Tests.{test-filters}
+use Rattle.desugar.specs.Packets.{passes}
 use Rattle.packets.specs.Running.{packetOf, passing}
-use Rattle.packets.specs.Results.{fieldMask, allMask, MasksOf, leafMask, combined, settles}
+use Rattle.packets.specs.Results.{fieldMask, MasksOf, leafMask, combined, settles}
 
 -- ## Bitwise, digit by digit
 

@@ -1,6 +1,5 @@
 -- What the bits of an answer mean.
 use mathlib.Core.Path.{_≡_, refl, sym, ap, subst, _∙_}
-use mathlib.Core.Logic.{_↔_}
 use mathlib.Core.Bool.{Bool, true, false, Bool·beq, _&&_}
 use mathlib.Core.List.{List, [], _∷_, map}
 use Prim.Native.Nat.{ℕ, zero, suc, _+_, _*_, _^_, _≤_, _<_, max}
@@ -9,20 +8,20 @@ use borrow.Author.Tests.{le-leb, lt-leb, leb-true, leb-false}
 use lib.Dec.{leb, ltb}
 use lib.ListN.{length, take, drop, getD, length-map, List·getD-eq-default}
 use lib.Seq.{drop-drop, take-length}
-use Rattle.literals.specs.Bits.{bit, valueOf, bitAt}
+use Rattle.literals.specs.Bits.{bit, bitAt}
 use Rattle.literals.proofs.Bits.{bit-at-value}
-use Rattle.literals.proofs.Logic.{and-left, and-right}
+use Rattle.literals.proofs.Logic.{and-right}
 use Rattle.expr.specs.Answers.{Answer, ok, refuse, andThen, need}
-use Rattle.expr.specs.Terms.{Atom, Zero, One, Top, Dup, End, Assign, Test, Core, leaf, one, two, records}
+use Rattle.expr.specs.Terms.{Zero, One, Top, Dup, End, Assign, Test, Core, leaf, one, two, records}
 use Rattle.expr.specs.Form.{written}
 use Rattle.expr.specs.Operations.{numFields, atomFields}
 use Rattle.desugar.specs.Negation.{isTest}
-use Rattle.desugar.specs.Packets.{Others, Packet, passesPair, passes, coreMeans}
+use Rattle.desugar.specs.Packets.{Others, Packet, passesPair, passes}
 use Rattle.desugar.proofs.Tests.{test-filters}
 use Rattle.cores.specs.Reading.{readCore}
 use Rattle.cores.proofs.CoreForm.{read-as}
 use Rattle.packets.specs.Running.{maxPackets, packetBytes, packetOf, wideEnough, passing, runPackets}
-use Rattle.packets.specs.Claims.{Continues, EachBit, FirstShort, total}
+use Rattle.packets.specs.Claims.{Continues, EachBit, FirstShort}
 use Rattle.packets.proofs.MaskLaws.{mask-below}
 use Rattle.packets.proofs.PacketLaws.{packets-long, startOf}
 
@@ -131,9 +130,6 @@ bit-of c ps i h = bit-at-value i (map (λ p. passes c (packetOf p)) ps) ∙ insi
     inside (q ∷ qs) (suc k) l = inside qs k (omega (arith, l))
 
 module _ {bs : List ℕ} {room : ℕ} {slice lengths : List ℕ} {m : ℕ} (r : RanAs bs room slice lengths m) where
-  abbrev pieces : List (List ℕ)
-  pieces = packetBytes lengths slice
-
   few : length lengths ≤ maxPackets
   few = leb-true (length lengths) maxPackets (and-right (leb 1 (length lengths)) (leb (length lengths) maxPackets) (r .count))
 

@@ -1,18 +1,18 @@
 -- Packets that lie end to end.
 use mathlib.Core.Path.{_≡_, refl, sym, ap, _∙_}
 use mathlib.Core.Bool.{Bool, true, false, cond}
-use mathlib.Core.List.{List, [], _∷_, map}
+use mathlib.Core.List.{List, [], _∷_}
 use Prim.Native.Nat.{ℕ, zero, suc, _+_, _-_, _*_, _/_, _^_, _≤_, _<_, min}
 use native.Mathlib.Omega.{arith}
 use borrow.Author.Tests.{le-leb, lt-leb, leb-true, leb-false, lt-ltb, le-ltb}
-use lib.Dec.{leb, ltb}
+use lib.Dec.{leb}
 use lib.ListN.{length, take, drop, getD, length-take, length-drop, drop-of-length-le}
 use lib.Seq.{drop-drop, take-all, take-nil}
-use Rattle.literals.specs.Bits.{bit, valueOf, unpack}
-use Rattle.expr.specs.Answers.{Answer, ok, refuse, andThen, need}
+use Rattle.literals.specs.Bits.{bit, unpack}
+use Rattle.expr.specs.Answers.{ok, refuse, andThen, need}
 use Rattle.packets.specs.Running.{maxPackets, packetBytes, packetOf, wideEnough}
 use Rattle.packets.specs.Claims.{total}
-use Rattle.packets.specs.Results.{fieldMask, allMask, Captured, ShortFound}
+use Rattle.packets.specs.Results.{fieldMask, Captured, ShortFound}
 use Rattle.packets.specs.declared.masks.Capture.{Capture}
 use Rattle.packets.proofs.MaskLaws.{mask-below, all-ones}
 

@@ -2,16 +2,15 @@
 use mathlib.Core.Path.{_≡_, refl, sym, ap, subst, _∙_}
 use mathlib.Core.Bool.{Bool, true, false, not, cond, _&&_, _||_, false≢true}
 use mathlib.Core.List.{List, [], _∷_}
-use Prim.Native.Nat.{ℕ, zero, suc, _+_, _-_, _*_, _^_, _≤_, _<_, max}
+use Prim.Native.Nat.{ℕ, zero, suc, _+_, _-_, _*_, _/_, _^_, _≤_, _<_, max}
 use native.Mathlib.Omega.{arith}
-use borrow.Author.Tests.{lt-ltb, le-leb, lt-leb, leb-true, leb-false, ltb-true, eqb-true, not-false}
+use borrow.Author.Tests.{lt-ltb, le-leb, lt-leb, leb-true, leb-false, ltb-true, eqb-true}
 use lib.Dec.{leb, ltb, eqb}
-use lib.ListN.{length, drop, length-drop}
+use lib.ListN.{length, drop, getD, length-drop}
 use lib.Seq.{drop-drop}
-use Rattle.literals.specs.Reading.{got}
 use Rattle.literals.proofs.Logic.{and-both, and-left, and-right, or-right}
 use Rattle.expr.specs.Answers.{Answer, ok, refuse, andThen, mapAnswer, need}
-use Rattle.expr.specs.Terms.{Atom, Zero, One, Top, Dup, End, Assign, Test, Op1, Complement, Star, LtlNext, Op2, Union, Intersect, Xor, Difference, Sequence, LtlUntil, Core, leaf, one, two, testKind, atomKind, op1Kind, op2Kind}
+use Rattle.expr.specs.Terms.{Atom, Zero, One, Top, Dup, End, Assign, Test, Op1, Complement, Star, LtlNext, Op2, Union, Intersect, Xor, Difference, Sequence, LtlUntil, Core, one, two, testKind, atomKind, op1Kind, op2Kind}
 use Rattle.expr.specs.Records.{Record}
 use Rattle.expr.specs.Results.{arityOf, fieldsAnswer}
 use Rattle.expr.proofs.Arities.{arity-in, arity-small}
@@ -19,10 +18,11 @@ use Rattle.expr.proofs.Slices.{Sliced, bytes-each}
 use Rattle.desugar.specs.CoreRecords.{atomField, atomValue}
 use Rattle.desugar.specs.CoreBytes.{coreRecord}
 use Rattle.desugar.specs.Negation.{isTest}
-use Rattle.cores.specs.Reading.{maxCore, readCoreRecord, CoreNode, atom, unary, binary, coreNode, Cores, dueBehind, putOver, coreAt, readCores, decodeCore, readCore}
-use Rattle.cores.specs.Results.{CoreRecordFound, ShortFound, widened, settled, countsOf, coreAnswer}
+use Rattle.desugar.proofs.Regions.{same-at}
+use Rattle.cores.specs.Reading.{maxCore, CoreNode, atom, unary, binary, coreNode, Cores, dueBehind, putOver, coreAt, readCores, decodeCore, readCore}
+use Rattle.cores.specs.Results.{CoreRecordFound, ShortFound, operatorBytes, atomBytes, widened, settled, countsOf, coreAnswer}
 use Rattle.packets.specs.Running.{passing}
-use Rattle.packets.specs.Results.{settles, combined, leafMask, Frame, first, second, State, stateOf, skipping, fed, opened, looked, stepped, Stepped, nothingYet, Skims, none-read, one-more, PairIs, PairsRead, SkimsTo, Skipped, withMask, Passed}
+use Rattle.packets.specs.Results.{settles, combined, leafMask, Frame, first, second, State, stateOf, skipping, fed, opened, looked, stepped, Stepped, nothingYet, Skims, none-read, one-more, pairBytes, PairIs, PairsRead, SkimsTo, Skipped, withMask, Passed}
 use Rattle.cores.specs.declared.records.CoreRecord.{CoreRecord}
 use Rattle.cores.specs.declared.records.RecordRead.the-variants as record-read
 use Rattle.packets.specs.declared.frames.Progress.{Progress}
@@ -33,8 +33,9 @@ use Rattle.packets.specs.declared.skim.Pair.{Pair}
 use Rattle.cores.specs.declared.CoreRead.{CoreRead}
 use Rattle.cores.specs.declared.CoreRead.the-variants as core-read
 use Rattle.cores.proofs.CoreForm.{Wrote, core-only}
+use Rattle.cores.proofs.CoreRecords.{operator-at, atom-at}
 use Rattle.cores.proofs.JudgeSteps.{Judging, bytes-drop, due-is, judge-start, judge-next, judge-done}
-use Rattle.cores.proofs.ListSteps.{nodeWords, threeOf, node-words, restOf, readOf, whole-read}
+use Rattle.cores.proofs.ListSteps.{nodeWords, node-words, restOf, readOf, whole-read}
 use Rattle.packets.proofs.MaskLaws.{leaf-mask, pair-mask, one-mask, settled-mask}
 use Rattle.packets.proofs.FrameLaws.{step-skip}
 
@@ -397,32 +398,57 @@ pub pairs-read : {s : List ℕ} {from index fields at place most : ℕ} → Pair
     → PairsRead s from index fields (record { at = at; place = place; most = most })
 pairs-read k = record { inside = k .inside; skims = k .skims }
 
--- a pair that was read
-module _ {s : List ℕ} {o : CoreRecord} {x : Bool} (f : ShortFound s o) (e : x ≡ (leb 1 (o .size) && (leb 7 (o .kind) && leb (o .kind) 11))) (h : not x ≡ false) where
-  operator-all : (leb 1 (o .size) && (leb 7 (o .kind) && leb (o .kind) 11)) ≡ true
-  operator-all = sym e ∙ not-false x h
+-- a pair that nine bytes tell
+module _ (s : List ℕ) (at : ℕ) (h : at + 9 ≤ length s) (each : Sliced s) {f : ℕ}
+    (is : f ≡ getD s (at + 4) 0 + 256 * (getD s (at + 5) 0 + 256 * (getD s (at + 6) 0 + 256 * getD s (at + 7) 0)))
+    (e : pairBytes (getD s at 0) (getD s (at + 1) 0) (getD s (at + 2) 0) (getD s (at + 3) 0) f (getD s (at + 8) 0) ≡ true) where
+  abbrev byte : ℕ → ℕ
+  byte n = getD s (at + n) 0
 
-  pub operator-found : CoreRecordFound s (record-read.Found o)
-  operator-found = f (leb-true 1 (o .size) (and-left (leb 1 (o .size)) _ operator-all))
+  both : (operatorBytes (getD s at 0) (byte 1) && atomBytes (byte 2) (byte 3) f (byte 8)) ≡ true
+  both = and-left _ (leb (byte 1) 11 && (eqb (byte 3) 6 && ltb f 4294967295)) e
 
-  pub pair-found : {t : CoreRecord} {y : Bool} → ShortFound (drop (o .size) s) t → y ≡ (leb 1 (t .size) && (eqb (t .kind) 6 && ltb (t .field) 4294967295)) → not y ≡ false
-      → PairIs s (record { size = o .size + t .size; need = t .field + 1 })
-  pair-found {t} {y} g u w =
-      let all : (leb 1 (t .size) && (eqb (t .kind) 6 && ltb (t .field) 4294967295)) ≡ true = sym u ∙ not-false y w in
-      let last = and-right (leb 1 (t .size)) (eqb (t .kind) 6 && ltb (t .field) 4294967295) all in
-      let kinds = and-right (leb 1 (o .size)) (leb 7 (o .kind) && leb (o .kind) 11) operator-all in
-      record {
-        operator = o;
-        test = t;
-        first = operator-found;
-        second = g (leb-true 1 (t .size) (and-left (leb 1 (t .size)) _ all));
-        low = leb-true 7 (o .kind) (and-left (leb 7 (o .kind)) (leb (o .kind) 11) kinds);
-        high = leb-true (o .kind) 11 (and-right (leb 7 (o .kind)) (leb (o .kind) 11) kinds);
-        kind = eqb-true (t .kind) 6 (and-left (eqb (t .kind) 6) (ltb (t .field) 4294967295) last);
-        below = omega (arith, ltb-true (t .field) 4294967295 (and-right (eqb (t .kind) 6) (ltb (t .field) 4294967295) last));
-        size = refl;
-        need = refl;
-      }
+  limits : (leb (byte 1) 11 && (eqb (byte 3) 6 && ltb f 4294967295)) ≡ true
+  limits = and-right (operatorBytes (getD s at 0) (byte 1) && atomBytes (byte 2) (byte 3) f (byte 8)) _ e
+
+  further : (m n k : ℕ) → m + n ≡ k → getD s (at + k) 0 ≡ getD s (at + m + n) 0
+  further m n k q = same-at s (omega (arith, q))
+
+  operator-there : CoreRecordFound (drop at s) (record-read.Found (record { kind = byte 1; field = 0; value = 0; size = 2 }))
+  operator-there = operator-at s at (omega (arith, h)) (and-left (operatorBytes (getD s at 0) (byte 1)) (atomBytes (byte 2) (byte 3) f (byte 8)) both)
+
+  test-there : CoreRecordFound (drop (at + 2) s) (record-read.Found (record { kind = getD s (at + 2 + 1) 0; field = f; value = byte 2 / 32; size = 6 + byte 2 / 32 }))
+  test-there =
+      atom-at s (at + 2) (omega (arith, h)) each
+      (is ∙ λ i. further 2 2 4 refl i + 256 * (further 2 3 5 refl i + 256 * (further 2 4 6 refl i + 256 * further 2 5 7 refl i)))
+      ((λ i. atomBytes (byte 2) (sym (further 2 1 3 refl) i) f (sym (further 2 6 8 refl) i)) ∙ and-right (operatorBytes (getD s at 0) (byte 1)) (atomBytes (byte 2) (byte 3) f (byte 8)) both)
+
+  -- an operator begins at 7
+  operator-low : 7 ≤ byte 1
+  operator-low =
+      let a = and-left (operatorBytes (getD s at 0) (byte 1)) (atomBytes (byte 2) (byte 3) f (byte 8)) both in
+      leb-true 7 (byte 1) (and-left (leb 7 (byte 1)) (leb (byte 1) 15) (and-right (eqb (getD s at 0) 1) (leb 7 (byte 1) && leb (byte 1) 15) a))
+
+  pub field-below : f < 4294967295
+  field-below = ltb-true f 4294967295 (and-right (eqb (byte 3) 6) (ltb f 4294967295) (and-right (leb (byte 1) 11) (eqb (byte 3) 6 && ltb f 4294967295) limits))
+
+  pub pair-at : PairIs (drop at s) (record { size = 8 + byte 2 / 32; need = f + 1 })
+  pair-at = record {
+    operator = record { kind = byte 1; field = 0; value = 0; size = 2 };
+    test = record { kind = getD s (at + 2 + 1) 0; field = f; value = byte 2 / 32; size = 6 + byte 2 / 32 };
+    first = operator-there;
+    second =
+        subst (λ (l : List ℕ). CoreRecordFound l (record-read.Found (record { kind = getD s (at + 2 + 1) 0; field = f; value = byte 2 / 32; size = 6 + byte 2 / 32 })))
+        (sym (drop-drop 2 at s)) test-there;
+    low = operator-low;
+    high = leb-true (byte 1) 11 (and-left (leb (byte 1) 11) (eqb (byte 3) 6 && ltb f 4294967295) limits);
+    kind =
+        sym (further 2 1 3 refl)
+        ∙ eqb-true (byte 3) 6 (and-left (eqb (byte 3) 6) (ltb f 4294967295) (and-right (leb (byte 1) 11) (eqb (byte 3) 6 && ltb f 4294967295) limits));
+    below = omega (arith, field-below);
+    size = omega arith;
+    need = refl;
+  }
 
 -- ## The loop of skim
 

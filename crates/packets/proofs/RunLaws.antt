@@ -8,11 +8,11 @@ use borrow.Author.Tests.{le-leb, lt-leb, lt-ltb, le-ltb, ltb-true, ltb-false, le
 use lib.Dec.{leb, ltb}
 use lib.ListN.{length}
 use Rattle.literals.specs.Bits.{Bytes}
-use Rattle.expr.specs.Answers.{Answer, ok, refuse, andThen, mapAnswer, need}
+use Rattle.expr.specs.Answers.{Answer, ok, refuse, andThen, need}
 use Rattle.expr.specs.Terms.{Core, size}
 use Rattle.expr.proofs.Places.{Placed, placed-then, placed-need}
 use Rattle.desugar.specs.Negation.{isTest}
-use Rattle.cores.specs.Reading.{maxCore, decodeCore, readCore}
+use Rattle.cores.specs.Reading.{maxCore, readCore}
 use Rattle.cores.specs.Results.{countsOf}
 use Rattle.packets.specs.Running.{maxPackets, packetBytes, wideEnough, passing, runPackets}
 use Rattle.packets.specs.Results.{passAnswer, PassOf, Passed, ShortFound}

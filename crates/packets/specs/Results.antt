@@ -5,7 +5,7 @@ use lib.{Dec.leb, Dec.ltb, Dec.eqb, ListN.length, ListN.drop, ListN.getD, Bits.b
 use Rattle.literals.specs.{Bits.valueOf}
 use Rattle.expr.specs.{Answers.Answer, Answers.ok, Answers.refuse, Terms.Core, Terms.testKind, Results.arityOf, Results.fieldsAnswer}
 use Rattle.desugar.specs.{Negation.isTest}
-use Rattle.cores.specs.{Reading.maxCore, Reading.decodeCore, Reading.readCore, Results.CoreRecordFound, Results.widened, Results.countsOf}
+use Rattle.cores.specs.{Reading.maxCore, Reading.decodeCore, Reading.readCore, Results.CoreRecordFound, Results.operatorBytes, Results.atomBytes, Results.widened, Results.countsOf}
 use Rattle.packets.specs.{Running.maxPackets, Running.packetBytes, Running.packetOf, Running.wideEnough, Running.passing, Claims.total}
 use Rattle.cores.specs.declared.records.CoreRecord.{CoreRecord}
 use Rattle.cores.specs.declared.records.RecordRead.the-variants as record-read
@@ -15,7 +15,6 @@ use Rattle.packets.specs.declared.skim.Skimmed.{Skimmed}
 use Rattle.packets.specs.declared.skim.Spot.{Spot}
 use Rattle.packets.specs.declared.skim.Pair.{Pair}
 use Rattle.packets.specs.declared.skim.Pairs.{Pairs}
-use Rattle.packets.specs.declared.Pass.{Pass}
 use Rattle.packets.specs.declared.PassRead.{PassRead}
 use Rattle.cores.specs.declared.CoreRead.{CoreRead}
 use Rattle.cores.specs.declared.CoreRead.the-variants as core-read
@@ -138,6 +137,10 @@ pub data Skims (s : List ℕ) (at place skip : ℕ) (x : Answer ℕ) : (at′ pl
       → (d : CoreRecord) → 0 < skip′ → place′ < maxCore → CoreRecordFound (drop at′ s) (record-read.Found d) → testKind (d .kind) ≡ true
       → Skims s at place skip x (at′ + d .size) (place′ + 1) (skip′ - 1 + arityOf (d .kind)) (widened x′ (d .kind) (d .field) place′)
 
+-- the first bytes of an operator of tests, and those of a Test of a field that stands and is below the top one
+abbrev pub pairBytes : (first operator map kind field value : ℕ) → Bool
+pairBytes n o m k f v = (operatorBytes n o && atomBytes m k f v) && (leb o 11 && (eqb k 6 && ltb f 4294967295))
+
 -- an operator of tests and a Test behind it: their bytes, and the fields that the Test needs
 pub record PairIs (s : List ℕ) (d : Pair) : Type 0 where
   pub operator : CoreRecord
@@ -160,7 +163,7 @@ pub record PairsRead (s : List ℕ) (at place fields : ℕ) (r : Pairs) : Type 0
   pub inside : r .at ≤ length s
   pub skims : (skip : ℕ) → 1 ≤ skip → Skims s at place skip (ok fields) (r .at) (r .place) skip (ok (r .most))
 
--- so many were skipped of those that need not be looked at; with bounds
+-- as many cores as need not be looked at, or none, are skipped as far as Skims goes: what is next, what is due, and how far the run is
 pub record Skipped (s : List ℕ) (at place due : ℕ) (x : Answer ℕ) (run : Progress) (r : Spot) : Type 0 where
   pub cores : ℕ
   pub skip : ℕ

@@ -16,7 +16,8 @@ abbrev pub packetBytes : (lengths slice : List ℕ) → List (List ℕ)
 packetBytes [] s = []
 packetBytes (n ∷ ns) s = take n s ∷ packetBytes ns (drop n s)
 
--- "each packed with field 0 in the lowest bit of its first byte". A field beyond the last byte is false here; none is asked for
+-- "each packed with field 0 in the lowest bit of its first byte". A field beyond the last byte is false here; where packets are wide
+-- enough, none is asked for
 abbrev pub packetOf : List ℕ → Packet
 packetOf bytes = λ f. getD (unpack bytes) f false
 

@@ -97,8 +97,8 @@ fn opened_kind(kind: u8) -> u32
     kind as u32 + SECOND
 }
 
-// The state behind one record of a core: the record is not looked at, it gives its mask to the last operator, or it opens one. Without room for
-// that nothing is done: the list is too short for the core.
+// The state behind one record of a core: the record is not looked at, it gives its mask to the last operator, or it opens one. Nothing is done where
+// the list has no room for an operator more: it is then too short for the core, which is refused in the end.
 pub(crate) fn step(
     list: &mut [u32],
     table: &mut [u64; 512],

@@ -6,7 +6,6 @@ mod skim;
 ghost use mathlib.Core.Path.{_≡_};
 ghost use Prim.Native.Nat.{_≤_};
 ghost use lib.ListN.{length};
-ghost use Rattle.expr.specs.Terms.{testKind};
 ghost use Rattle.packets.specs.Running.{maxPackets, packetBytes, runPackets};
 ghost use Rattle.packets.specs.Results.{Captured, withMask, Passed, ShortFound, ranAnswer};
 use crate::masks::Capture;
@@ -20,14 +19,14 @@ use expr::operations::FieldCount;
 pub const MAX_PACKETS: usize = 64;
 
 // A core that was read: its records, its fields, whether it is a test, and the packets that pass it.
-pub struct Pass {
-    pub count: usize,
-    pub fields: u32,
-    pub test: bool,
-    pub mask: u64,
+struct Pass {
+    count: usize,
+    fields: u32,
+    test: bool,
+    mask: u64,
 }
 
-pub enum PassRead {
+enum PassRead {
     Found(Pass),
     Refused(u8, usize),
 }
@@ -36,13 +35,6 @@ pub enum PassRead {
 pub enum Ran {
     Passing(u64),
     Refused(u8, usize),
-}
-
-// Whether a test may have a record of this kind: 0, 1 and 6 to 11.
-fn is_test_kind(kind: u8) -> bool
-    ensures { λ r. ⌜ r ≡ testKind kind ⌝ }
-{
-    (kind <= 1) | ((6 <= kind) & (kind <= 11))
 }
 
 // What was read of a core, with whether it is a test and its mask.
@@ -60,7 +52,8 @@ fn with_mask(read: CoreRead, test: bool, mask: u64) -> PassRead
     }
 }
 
-// The core's records are read once, each by a step on masks that lie in the list.
+// Reads the core once for all packets, from its first record to its last, and makes its mask on the way. Operators whose operands are being read lie in
+// the list.
 fn one_pass(
     s: &[u8],
     list: &mut [u32],
@@ -82,14 +75,13 @@ fn one_pass(
         if MAX_CORE <= place {
             return PassRead::Refused(42, place);
         }
-        let short = records::read_short(s, at);
-        let r = match records::read_core_record(short, s, at) {
+        let r = match records::read_core_record(records::read_short(s, at), s, at) {
             RecordRead::Refused(number) => return PassRead::Refused(number, place),
             RecordRead::Found(r) => r,
         };
         let widest = cores::widen(fields, r.kind, r.field, place);
         let behind = due - 1 + expr::form::arity(r.kind);
-        test = test & is_test_kind(r.kind);
+        test = test & expr::records::is_test_kind(r.kind);
         run = crate::frames::step(&mut *list, &mut table, packets, lengths, capture, run, r);
         let next = crate::skim::skip_cores(s, at + r.size, place + 1, behind, widest, run);
         at = next.at;

@@ -6,7 +6,7 @@ ghost use lib.ListN.{length};
 ghost use Rattle.literals.specs.Bits.{bit};
 ghost use Rattle.packets.specs.Running.{maxPackets, packetBytes};
 ghost use Rattle.packets.specs.Claims.{total};
-ghost use Rattle.packets.specs.Results.{fieldMask, allMask, leafMask, combined, settles, Captured, MasksOf};
+ghost use Rattle.packets.specs.Results.{fieldMask, leafMask, combined, settles, Captured, MasksOf};
 use cores::records::CoreRecord;
 
 // How many masks of fields are kept, in two numbers each.
@@ -56,7 +56,7 @@ fn field_mask(packets: &[u8], lengths: &[u32], end: usize, field: usize) -> u64
     mask
 }
 
-// The packets that have a field: the mask that was made before, if it is still kept. Fields with the same slot take turns.
+// The packets that have a field: the mask that was made before, if it is still kept. Of fields with the same slot the later one's takes the place of the earlier one's.
 fn kept_mask(table: &mut [u64; 512], packets: &[u8], lengths: &[u32], end: usize, field: u32) -> u64
     requires { ⌜ (length (now lengths) ≤ maxPackets) × (end ≡ total (now lengths)) ⌝ }
     requires { ⌜ MasksOf (packetBytes (now lengths) (now packets)) (now table) ⌝ }

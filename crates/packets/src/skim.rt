@@ -2,11 +2,11 @@
 ghost use mathlib.Core.Path.{_≡_};
 ghost use mathlib.Core.Bool.{_&&_};
 ghost use Prim.Native.Nat.{_+_, _*_, _≤_, max};
-ghost use lib.Dec.{leb, ltb, eqb};
+ghost use lib.Dec.{leb};
 ghost use lib.ListN.{length, drop};
 ghost use Rattle.expr.specs.Results.{fieldsAnswer};
 ghost use Rattle.cores.specs.Reading.{maxCore};
-ghost use Rattle.packets.specs.Results.{PairFound, PairsRead, SkimsTo, Skipped};
+ghost use Rattle.packets.specs.Results.{pairBytes, PairFound, PairsRead, SkimsTo, Skipped};
 use crate::frames::Progress;
 use cores::MAX_CORE;
 use cores::records;
@@ -49,38 +49,33 @@ fn is_skimmed(size: usize, kind: u8) -> bool
     (1 <= size) & ((6 <= kind) & (kind <= 11))
 }
 
-// Whether a record was read that is an operator of tests.
-fn is_operator(size: usize, kind: u8) -> bool
-    ensures { λ r. ⌜ r ≡ (leb 1 size && (leb 7 kind && leb kind 11)) ⌝ }
+// Whether these are the first bytes of an operator of tests, and those of a Test of a field that stands and is below the top one.
+fn is_pair(first: u8, operator: u8, map: u8, kind: u8, field: u32, value: u8) -> bool
+    ensures { λ r. ⌜ r ≡ pairBytes first operator map kind field value ⌝ }
 {
-    (1 <= size) & ((7 <= kind) & (kind <= 11))
-}
-
-// Whether a record was read that is a Test of a field below the top one.
-fn is_test(size: usize, kind: u8, field: u32) -> bool
-    ensures { λ r. ⌜ r ≡ (leb 1 size && (eqb kind 6 && ltb field 4294967295)) ⌝ }
-{
-    (1 <= size) & ((kind == 6) & (field < 0xffff_ffff))
+    let both = records::is_operator(first, operator) & records::is_atom(map, kind, field, value);
+    both & ((operator <= 11) & ((kind == 6) & (field < 0xffff_ffff)))
 }
 
 // An operator and a Test behind it, which most records of a test are: their bytes, and the fields that the Test needs. Of size 0 where there
-// are no such two at the index.
+// are no such two at the index, or not told by nine bytes.
 fn read_pair(s: &[u8], at: usize) -> Pair
     requires { ⌜ at ≤ length (now s) ⌝ }
     ensures { λ r. ⌜ PairFound (drop at (now (s .entry))) r ⌝ }
 {
     let none = Pair { size: 0, need: 0 };
-    let operator = records::read_short(s, at);
-    if !is_operator(operator.size, operator.kind) {
+    if s.len() - at < 9 {
         return none;
     }
-    let test = records::read_short(s, at + operator.size);
-    if !is_test(test.size, test.kind, test.field) {
+    let map = s[at + 2];
+    let field = records::number_of(s[at + 4], s[at + 5], s[at + 6], s[at + 7]);
+    if !is_pair(s[at], s[at + 1], map, s[at + 3], field, s[at + 8]) {
         return none;
     }
+    let value = map / 32;
     Pair {
-        size: operator.size + test.size,
-        need: test.field + 1,
+        size: 8 + value as usize,
+        need: field + 1,
     }
 }
 

@@ -1,4 +1,4 @@
--- `netkat::run::netkat_run_packets` meets its contract.
+-- `netkat::run::netkat_run_packets` meets its contract: each case of the enum is answered by its number or its halves.
 use mathlib.Core.Path.{refl, sym, ap, subst, _∙_}
 use native.Mathlib.Omega.{arith}
 use borrow.Author.Needs.{needs}
@@ -39,13 +39,13 @@ same-length : tie.Need-same-length
 same-length c = search needs
 
 returns : tie.Need-returns
-returns c = (c .refused .ensures ∙ ap (λ x. hosted (mapAnswer halved x)) (ap ranAnswer (sym (c .before .before .number .given .1)) ∙ c .before .before .before .before .before .before .run-packets .ensures), refl)
+returns c = ((c .refused .ensures ∙ ap (λ x. hosted (mapAnswer halved x)) (ap ranAnswer (sym (c .before .before .number .given .1)) ∙ c .before .before .before .before .before .before .run-packets .ensures), refl), search needs)
 
 same-length-2 : tie.Need-same-length-2
 same-length-2 c = search needs
 
 returns-2 : tie.Need-returns-2
-returns-2 c = (c .success .ensures ∙ ap (λ x. hosted (mapAnswer halved x)) (ap ranAnswer (sym (c .before .before .mask .given .1)) ∙ c .before .before .before .before .before .before .run-packets .ensures), refl)
+returns-2 c = ((c .success .ensures ∙ ap (λ x. hosted (mapAnswer halved x)) (ap ranAnswer (sym (c .before .before .mask .given .1)) ∙ c .before .before .before .before .before .before .run-packets .ensures), refl), search needs)
 
 pub netkat-run-packets-spec : {M : Type 1} → statement M
 netkat-run-packets-spec =
