@@ -1,6 +1,6 @@
 /* From a written NetKAT policy to its one-bit core: what libnetkat.a exports.
  *
- * Terms and cores are bytes: FORMAT.md says their form, REFUSALS.md what is refused, TERMS.md what the words mean; they stand in docs/, and
+ * Terms, cores and packets are bytes: FORMAT.md says their form, REFUSALS.md what is refused, TERMS.md what the words mean; they stand in docs/, and
  * are installed below share/doc/netkat. A slice is a pointer to its first element and its length in elements. Every operation answers a
  * struct by value. Of what its caller owns it changes nothing but `work`, `out` and `records`; it allocates nothing, and keeps no pointer
  * and no state. So it may be called from several threads at once, as long as no call is lent a `work`, `out` or `records` that another call
@@ -264,7 +264,7 @@ netkat_answer netkat_cost(uint32_t start, uint32_t end, uint32_t pattern, uint32
  * On a refusal every number of records is kept, on success every number behind those of the core. */
 netkat_answer netkat_read_core(const uint8_t *core, size_t core_len, uint32_t *records, size_t records_len);
 
-/* Runs packets through a core that is a test, one with the kinds 0, 1 and 6 to 11 alone, and reads its records once for all of them. The
+/* Runs packets through a core that is a test, one with the kinds 0, 1 and 6 to 11 alone, in one pass over its records for all of them. The
  * answer has a bit for each packet, bit 0 for the first: 1 if the packet passes, that is if the core relates it to itself, whatever the
  * fields beyond its bytes are. The bits of packets that are not there are 0. first is the low half of these 64 bits, second the high half,
  * and NETKAT_PASSED puts them together.

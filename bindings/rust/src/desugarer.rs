@@ -22,7 +22,7 @@ pub(crate) fn with_kept<T>(mut call: impl FnMut(&mut Desugarer) -> T) -> T {
 ///
 /// It is lent to the library without being cleared, so that pages which no policy needed take no memory: on Linux 4 to
 /// 8 KiB are resident after a policy of some nodes, some 70 KiB after one of 3,500, 0.7 to 0.8 MB after one of 43,000. To read a core, or
-/// to run packets through it, takes 12 bytes for each of its nodes, in the same memory.
+/// takes 12 bytes for each of its nodes, in the same memory; to run packets through it, 12 for each operator that is open at once.
 ///
 /// ```
 /// use netkat::{desugar, release_memory, Expr};

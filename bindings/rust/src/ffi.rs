@@ -162,14 +162,14 @@ fn list_len(core: &[u8]) -> usize {
     3 * core.len().min(MAX_CORE_RECORDS)
 }
 
-/// Which packets pass the core, a bit for each. The list becomes as long as the core needs it, and is as long already at the next call.
+/// Which packets pass the core, a bit for each. The list's capacity becomes what the core needs, and is there already at the next call.
 pub(crate) fn run_packets(core: &[u8], list: &mut Vec<u32>, packets: &[u8], lengths: &[u32]) -> Result<u64, Refusal> {
     let list_len = list_len(core);
     list.clear();
     list.reserve(list_len);
     // SAFETY: each pointer and its length are those of a slice, but for the list: behind its pointer there is room for so many numbers, which
-    // are borrowed mutably, so nothing overlaps them. They are not initialised, and they need not be: the answer does not depend on what they
-    // hold (proved).
+    // are borrowed mutably, so nothing overlaps them. They are not initialised, and they need not be: the library reads no number that the
+    // same call has not written (seen in its code; proved is that the answer does not depend on what they hold).
     let answer = unsafe {
         netkat_run_packets(
             core.as_ptr(),

@@ -10,8 +10,8 @@ use crate::{bytes, ffi, Core, Refusal, RefusalKind};
 /// A core is a test if it has no other kinds than Zero, One, Test, Union, Intersect, Xor, Difference and Sequence. The core of a policy that
 /// is a test ([`Expr::check`](crate::Expr::check)) is one.
 impl Core {
-    /// Which of 1 to 64 packets pass: bit i of the number is that of packet i. Bits of packets that are not there are 0. The library reads the
-    /// core once for all of them.
+    /// Which of 1 to 64 packets pass: bit i of the number is that of packet i. Bits of packets that are not there are 0. The library goes
+    /// over the core once for all of them.
     ///
     /// ```
     /// use netkat::{desugar, Expr, Pattern};
