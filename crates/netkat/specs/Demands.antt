@@ -82,8 +82,8 @@ pub data PacketsDeclined (bs : List ℕ) (room : ℕ) (slice lengths : List ℕ)
   short : (c : Core) (n i : ℕ) → readCore bs room ≡ ok (c, n) → isTest c ≡ true → (1 ≤ length lengths) × (length lengths ≤ maxPackets)
       → FirstShort n (packetBytes lengths slice) i → PacketsDeclined bs room slice lengths 50 i
 
--- "each by its number and place in document 01": a call with an answer buffer of room bytes, or a record list of room numbers that it answers in, is to be refused by a
--- number at a place. Those of form are `decode`'s (expr/specs/Form), `lentPattern`'s (costs/specs/Lent) and `decodeCore`'s
+-- "each by its number and place in document 01": a call with an answer buffer of room bytes, or a record list of room numbers that it answers in, is
+-- to be refused by a number at a place. Those of form are `decode`'s (expr/specs/Form), `lentPattern`'s (costs/specs/Lent) and `decodeCore`'s
 -- (cores/specs/Reading), those of the rules `ruleAt`'s (Check)
 abbrev pub Declined : Call → (room number place : ℕ) → Type 0
 Declined (Check bs) room r p = CheckDeclined bs r p

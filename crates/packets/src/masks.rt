@@ -56,7 +56,8 @@ fn field_mask(packets: &[u8], lengths: &[u32], end: usize, field: usize) -> u64
     mask
 }
 
-// The packets that have a field: the mask that was made before, if it is still kept. Of fields with the same slot the later one's takes the place of the earlier one's.
+// The packets that have a field: the mask that was made before, if it is still kept. Of fields with the same slot the later one's mask takes the place
+// of the earlier one's.
 fn kept_mask(table: &mut [u64; 512], packets: &[u8], lengths: &[u32], end: usize, field: u32) -> u64
     requires { ⌜ (length (now lengths) ≤ maxPackets) × (end ≡ total (now lengths)) ⌝ }
     requires { ⌜ MasksOf (packetBytes (now lengths) (now packets)) (now table) ⌝ }
