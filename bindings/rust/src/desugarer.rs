@@ -21,7 +21,7 @@ pub(crate) fn with_kept<T>(mut call: impl FnMut(&mut Desugarer) -> T) -> T {
 /// `read_core` and `run_packets` keep for this thread. The next call allocates it anew; a thread that ends frees it by itself.
 ///
 /// It is lent to the library without being cleared, so that pages which no policy needed take no memory: on Linux 4 to
-/// 8 KiB are resident after a policy of some nodes, some 70 KiB after one of 3,500, 0.7 to 0.8 MB after one of 43,000. To read a core, or
+/// 8 KiB are resident after a policy of some nodes, some 70 KiB after one of 3,500, 0.7 to 0.8 MB after one of 43,000. To read a core
 /// takes 12 bytes for each of its nodes, in the same memory; to run packets through it, 12 for each operator that is open at once.
 ///
 /// ```

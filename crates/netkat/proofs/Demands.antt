@@ -20,10 +20,10 @@ use Rattle.desugar.specs.Packets.{Others}
 use Rattle.desugar.proofs.Limit.{Costs, desugar-costs, drawsOf, gives, limit-of, stops}
 use Rattle.costs.specs.Lent.{lentCost}
 use Rattle.cores.specs.Reading.{readCore}
+use Rattle.packets.specs.Running.{runPackets}
 use Rattle.netkat.specs.Check.{RulesHold, checkBytes, testSort}
 use Rattle.netkat.specs.Claims.{Desugared, Desugars, Good}
 use Rattle.netkat.specs.Demands.{AtPassing, Covers, Declined, Demand1, Demand2, Demand3, OnGood, WholeTerm}
-use Rattle.packets.specs.Running.{runPackets}
 use Rattle.netkat.specs.Entry.{Answers, Call, Check, Cost, Desugar, FieldCount, Hosts, ReadCore, RunPackets, Subrange, Substitute, TestFragment, halved, hosted}
 use Rattle.netkat.specs.Points.{Point, definitions, desugarAt}
 use Rattle.netkat.specs.declared.Answer.{Answer as HostAnswer}

@@ -24,7 +24,7 @@ use Rattle.packets.specs.declared.Ran.the-variants as ran
 
 -- ## Masks: bit i is of packet i
 
--- the packets that have a field
+-- the packets in which a field is true
 abbrev pub fieldMask : ℕ → List (List ℕ) → ℕ
 fieldMask f ps = valueOf (map (λ p. packetOf p f) ps)
 

@@ -36,7 +36,7 @@ fn with_bit(mask: u64, standing: bool) -> u64
     2 * mask + standing as u64
 }
 
-// The packets that have a field, from the last to the first. A packet that the slice cuts has the bytes that are there.
+// The packets in which a field is true, from the last to the first. A packet that the slice cuts has the bytes that are there.
 fn field_mask(packets: &[u8], lengths: &[u32], end: usize, field: usize) -> u64
     requires { ⌜ (length (now lengths) ≤ maxPackets) × (end ≡ total (now lengths)) ⌝ }
     ensures { λ r. ⌜ r ≡ fieldMask field (packetBytes (now (lengths .entry)) (now (packets .entry))) ⌝ }
@@ -56,7 +56,7 @@ fn field_mask(packets: &[u8], lengths: &[u32], end: usize, field: usize) -> u64
     mask
 }
 
-// The packets that have a field: the mask that was made before, if it is still kept. Of fields with the same slot the later one's mask takes the place
+// The packets in which a field is true: the mask that was made before, if it is still kept. Of fields with the same slot the later one's mask takes the place
 // of the earlier one's.
 fn kept_mask(table: &mut [u64; 512], packets: &[u8], lengths: &[u32], end: usize, field: u32) -> u64
     requires { ⌜ (length (now lengths) ≤ maxPackets) × (end ≡ total (now lengths)) ⌝ }
