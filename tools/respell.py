@@ -14,6 +14,7 @@ import re
 NAME = r"[^\s(){}.;,@\"«»`]+"
 DECLARED = re.compile(r"(?m)^( *)((?:pub |abbrev |unfoldable )*)(" + NAME + r"(?: " + NAME + r")*?)(?: \{[^{}\n]*\}| \([^()\n]*\))* :")
 WALK = re.compile(r"/proofs/.*/(Proof|Answers|Invariants)(/.*)?\.antt$|/out/")
+LENT = re.compile(r"(?m)^use (?:mathlib|native|lib|borrow|denote|Prim)\b[^{\n]*\{([^}]*)\}")
 CLAUSE = re.compile(r"\s*(ghost |requires|ensures|pub ghost)|(old|new): .*(ghost |requires|ensures)")
 PATH = re.compile(r"(?:" + NAME + r")(?:\." + NAME + r")*")
 
@@ -55,7 +56,7 @@ def main():
         if len(ns) > 1:
             print("met:", ", ".join(f"{n} is {new[n]}" for n in ns))
     new = {n: s for n, s in new.items() if n != s}
-    old = set(new)
+    old = set()
 
     def turn(m):
         steps = m[0].split(".")
@@ -74,6 +75,9 @@ def main():
         if "/out/" in path:
             continue
         text = read(path)
+        # What a file has from a library keeps the library's name.
+        lent = {n.split(".")[-1] for m in LENT.finditer(text) for n in re.findall(NAME, m[1])}
+        old = set(new) - lent
         if path.endswith(".antt"):
             t = "\n".join(map(line, text.split("\n")))
         else:

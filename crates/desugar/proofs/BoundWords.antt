@@ -4,7 +4,7 @@ use mathlib.Core.Bool.{Bool, beq, cond, false, not, true}
 use mathlib.Core.List.{List, [], ◌++◌, ◌∷◌, append_nil}
 use Prim.Native.Nat.{◌*◌, ◌+◌, ◌-◌, ◌<◌, ◌≤◌, suc, zero, ℕ}
 use native.Mathlib.Nat.{add-zero, sub-zero}
-use native.Mathlib.Numerals.{add_one}
+use native.Mathlib.Numerals.{add-one}
 use native.Mathlib.Omega.{arith}
 use lib.ListN.{get_or, length, length-append}
 use lib.Seq.{length-sets, sets}
@@ -170,7 +170,7 @@ links_stand s a w p v xs at l h =
     let vs : List ℕ = words (leaf (Test (s + p) v)) in
     let e : words (term s a w p v) ≡ us ++ vs = words_chain Intersect One (tops s a w (suc p)) (leaf (Test (s + p) v)) in
     let long : length (words (term s a w p v)) ≡ 6 * (w - suc p) + 3 = ap length e ∙ length-append us vs ∙ ap (λ n. n + 3) (length_tops s a w (suc p)) in
-    rw (add_one p) (left us vs (moved (stored xs at (words (term s a w p v)) (omega arith)) refl e))
+    rw (add-one p) (left us vs (moved (stored xs at (words (term s a w p v)) (omega arith)) refl e))
 
 -- the term of a bit, where it has one
 module _ (d : Bool) (s : ℕ) (a : Bits) (w p : ℕ) (xs : List ℕ) {r : Progress} (l : p < r.done) (h : Ready s a w xs r) where

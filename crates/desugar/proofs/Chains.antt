@@ -4,7 +4,7 @@ use mathlib.Core.Bool.{Bool, false}
 use mathlib.Core.List.{List, [], ◌++◌, ◌∷◌, append_assoc, append_nil}
 use Prim.Native.Nat.{◌*◌, ◌+◌, ◌-◌, ◌≤◌, suc, zero, ℕ}
 use native.Mathlib.Nat.{add-suc, add-zero, suc-add}
-use native.Mathlib.Numerals.{add_one}
+use native.Mathlib.Numerals.{add-one}
 use native.Mathlib.Omega.{arith}
 use lib.ListN.{drop, drop_of_length-le, get_or, length, length-append, replicate}
 use lib.Seq.{drop-cons, sets}
@@ -133,7 +133,7 @@ module _ {k m : ℕ} {o : Op2} {f : ℕ → Bool → Atom} (kinds : Kinds k m o 
   atoms_more =
       (λ i. atoms ++ leaf (f (s + sym (length_stretch a from n) i) (next i)) ∷ [])
       ∙ sym (each_bit_more f s (stretch a from n) (get_or a (from + n) false))
-      ∙ ap (each_bit f s) (sym (stretch_more a from n) ∙ ap (stretch a from) (sym (add_one n)))
+      ∙ ap (each_bit f s) (sym (stretch_more a from n) ∙ ap (stretch a from) (sym (add-one n)))
 
   place : at + 6 * n ≡ at + length (linked o atoms)
   place =

@@ -4,7 +4,7 @@ use mathlib.Core.Bool.{Bool, cond, false, true}
 use mathlib.Core.List.{List, [], ◌++◌, ◌∷◌, append_nil}
 use Prim.Native.Nat.{◌*◌, ◌+◌, ◌-◌, ◌<◌, ◌≤◌, suc, zero, ℕ}
 use native.Mathlib.Nat.{add-zero, suc-add}
-use native.Mathlib.Numerals.{add_one}
+use native.Mathlib.Numerals.{add-one}
 use native.Mathlib.Omega.{arith}
 use lib.ListN.{get_or, length}
 use lib.Seq.{sets}
@@ -119,7 +119,7 @@ pub trim_here : (m : Bits) {w e : ℕ} → w ≡ suc e → get_or m e false ≡ 
 trim_here m {w} {e} h t = ap (trim m) h ∙ ap (λ b. cond b (trim m e) (suc e)) t ∙ sym h
 
 pub clear_next : (m : Bits) (i : ℕ) → clear (stretch m 0 (i + 1)) ≡ clear (stretch m 0 i) + cond (get_or m i false) 0 1
-clear_next m i = rw (add_one i) (clear_more m i)
+clear_next m i = rw (add-one i) (clear_more m i)
 
 -- the highest bit of a mask that is false is one of its bits, and not among those below it
 pub clear_last : (m : Bits) (w e : ℕ) → trim m w ≡ suc e → (e < w) × (clear (stretch m 0 e) + 1 ≤ clear (stretch m 0 w))
@@ -160,7 +160,7 @@ module _ (s : ℕ) (a m : Bits) (i : ℕ) (l : List ℕ) (at : ℕ) {to : ℕ} {
       step.written
       ∙ (λ j. sets (sofar j) (end j) own)
       ∙ sets_append l at (linked Intersect (lows s a m i)) own
-      ∙ ap (sets l at) (sym (linked_append Intersect (lows s a m i) (tested s a m i)) ∙ ap (linked Intersect) (sym (lows_more s a m i) ∙ ap (lows s a m) (sym (add_one i))))
+      ∙ ap (sets l at) (sym (linked_append Intersect (lows s a m i) (tested s a m i)) ∙ ap (linked Intersect) (sym (lows_more s a m i) ∙ ap (lows s a m) (sym (add-one i))))
 
   pub masked_last : (w : ℕ) → trim m w ≡ suc i → {b : Bool} → b ≡ get_or a i false
       → sets xs to (6 ∷ (s + i) ∷ bit b ∷ []) ≡ sets l at (words (chain Intersect One (lows s a m w)))

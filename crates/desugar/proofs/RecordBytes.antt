@@ -6,7 +6,7 @@ use Prim.Native.Nat.{ℕ, zero, suc, ◌+◌, ◌-◌, ◌*◌, ◌%◌, ◌≤�
 use native.Mathlib.Nat.{add-zero, add-suc, zero-add}
 use native.Mathlib.Decide.{dec_lt, ℕ_discrete}
 use native.Mathlib.Omega.{arith}
-use native.Mathlib.Numerals.{add_one, add-two, add-three}
+use native.Mathlib.Numerals.{add-one, add-two, add-three}
 use lib.ListN.{length, get_or, drop, set, length-append}
 use lib.Seq.{sets, sets-eq, set-get_or, length-sets}
 use borrow.Author.Tests.{eq-eqb, ne_eqb}
@@ -227,11 +227,11 @@ atom_map k f v hk hf =
 
 -- two bytes, one behind the other
 pub pair : (l : List ℕ) (i a b : ℕ) → Put (a ∷ b ∷ []) l i (set (set l i a) (i + 1) b) (i + 2)
-pair l i a b = record { written = rw (add_one); next = refl }
+pair l i a b = record { written = rw (add-one); next = refl }
 
 -- four bytes, one behind the other
 pub four : (l : List ℕ) (i a b c d : ℕ) → set (set (set (set l i a) (i + 1) b) (i + 2) c) (i + 3) d ≡ sets l i (a ∷ b ∷ c ∷ d ∷ [])
-four l i a b c d = rw (add_one, add-two, add-three)
+four l i a b c d = rw (add-one, add-two, add-three)
 
 -- the same bytes
 pub put_as : {us vs l l' : List ℕ} {i r : ℕ} → us ≡ vs → Put us l i l' r → Put vs l i l' r
@@ -254,7 +254,7 @@ put_length {us} {l} {l'} {i} p = ap length p.written ∙ length-sets l i us
 module _ (xs : List ℕ) (at n : ℕ) where
   -- one record more
   pub records_next : records_bytes xs at (n + 1) ≡ records_bytes xs at n ++ record_bytes xs (at + 3 * n)
-  records_next = ap (records_bytes xs at) (add_one n)
+  records_next = ap (records_bytes xs at) (add-one n)
 
   pub length_next : length (records_bytes xs at (n + 1)) ≡ length (records_bytes xs at n) + length (record_bytes xs (at + 3 * n))
   length_next = ap length records_next ∙ length-append (records_bytes xs at n) (record_bytes xs (at + 3 * n))

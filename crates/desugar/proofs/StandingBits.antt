@@ -4,7 +4,7 @@ use mathlib.Core.Bool.{Bool, true, false, cond, beq}
 use mathlib.Core.List.{List, [], ◌∷◌, ◌++◌}
 use Prim.Native.Nat.{ℕ, zero, suc, ◌+◌, ◌-◌, ◌*◌, ◌/◌, ◌%◌, ◌^◌, ◌≤◌, ◌<◌}
 use native.Mathlib.Nat.{mul-le-mul_right, mul-suc, suc-mul, pow-succ'}
-use native.Mathlib.Numerals.{add_one}
+use native.Mathlib.Numerals.{add-one}
 use native.Mathlib.Decide.{dec_lt}
 use native.Mathlib.Omega.{arith}
 use borrow.Author.Tests.{eq-eqb, ne_eqb}
@@ -60,8 +60,8 @@ all_128 n h = all_most n 128 h
 pub all_bits_are : (n : ℕ) → all_bits n ≡ n * (n + 1)
 all_bits_are zero = refl
 all_bits_are (suc n) =
-    let square : n * (n + 1) ≡ n * n + n = ap (λ m. n * m) (add_one n) ∙ mul-suc n n in
-    let next : suc n * (suc n + 1) ≡ suc n * suc n + suc n = ap (λ m. suc n * m) (add_one (suc n)) ∙ mul-suc (suc n) (suc n) in
+    let square : n * (n + 1) ≡ n * n + n = ap (λ m. n * m) (add-one n) ∙ mul-suc n n in
+    let next : suc n * (suc n + 1) ≡ suc n * suc n + suc n = ap (λ m. suc n * m) (add-one (suc n)) ∙ mul-suc (suc n) (suc n) in
     let inner : suc n * suc n ≡ suc n * n + suc n = mul-suc (suc n) n in
     let first : suc n * n ≡ n * n + n = suc-mul n n in
     omega (arith, all_bits_are n)

@@ -4,9 +4,9 @@ use mathlib.Core.Bool.{Bool, true, false, not, cond, beq, true≢false}
 use mathlib.Core.List.{◌∷◌}
 use Prim.Native.Nat.{ℕ, zero, suc, ◌+◌, ◌-◌, ◌*◌, ◌^◌, ◌≤◌, ◌<◌}
 use native.Mathlib.Decide.{dec_lt}
-use native.Mathlib.Numerals.{add_one, one-add}
+use native.Mathlib.Numerals.{add-one, one-add}
 use native.Mathlib.Omega.{arith}
-use borrow.Author.Tests.{eq-eqb, ne_eqb, le-ltb, lt-ltb, not_true, not_false}
+use borrow.Author.Tests.{eq-eqb, ne_eqb, le-ltb, lt-ltb, not-true, not-false}
 use lib.ListN.{length, get_or, take, drop, length-take, length-drop}
 use lib.Seq.{take_all, get_or-drop}
 use Rattle.literals.specs.Bits.{Bits, bit, value_of}
@@ -48,14 +48,14 @@ is_equal Above = false
 order_same : (i : ℕ) (a b : Bits) → get_or a i false ≡ get_or b i false
     → order_of (value_of (take (suc i) a)) (value_of (take (suc i) b)) ≡ order_of (value_of (take i a)) (value_of (take i b))
 order_same i a b e =
-    rw (← add_one i, value_of_take i a e, value_of_take i b refl)
+    rw (← add-one i, value_of_take i a e, value_of_take i b refl)
     (order_both (value_of (take i a)) (value_of (take i b)) (2 ^ i * bit (get_or b i false)))
 
 -- one that differs decides
 order_differs : (i : ℕ) (a b : Bits) {x : Bool} → get_or a i false ≡ x → get_or b i false ≡ not x
     → order_of (value_of (take (suc i) a)) (value_of (take (suc i) b)) ≡ cond x Above Below
 order_differs i a b {x} e f =
-    rw (← add_one i, value_of_take i a e, value_of_take i b f) (go x)
+    rw (← add-one i, value_of_take i a e, value_of_take i b f) (go x)
   where
     go : (t : Bool) → order_of (value_of (take i a) + 2 ^ i * bit t) (value_of (take i b) + 2 ^ i * bit (not t)) ≡ cond t Above Below
     go true = order_above (value_of (take i a) + 2 ^ i * 1) (value_of (take i b) + 2 ^ i * 0) (omega (arith, value_below_take i b))
@@ -150,11 +150,11 @@ module _ {w n : ℕ} {a b : Bits} (c : Comparing w n a b) where
         go i l k (no g) = c.equal i (omega arith) k
         go i l k (yes g) =
             let at : i ≡ w - (n + 1) = omega arith in
-            rw at (sym e ∙ (beq_is x y).0 (not_false _ t) ∙ f)
+            rw at (sym e ∙ (beq_is x y).0 (not-false _ t) ∙ f)
 
     pub comparing_differs : {o : Order} → not (beq x y) ≡ true → o ≡ cond x Above Below → ComparedAs w a b (record { order = o; looked = n + 1 })
     comparing_differs t g =
-        let opposite : get_or b (w - (n + 1)) false ≡ not x = sym f ∙ ne_not x y (λ h. true≢false (sym ((beq_is x y).1 h) ∙ not_true _ t)) in
+        let opposite : get_or b (w - (n + 1)) false ≡ not x = sym f ∙ ne_not x y (λ h. true≢false (sym ((beq_is x y).1 h) ∙ not-true _ t)) in
         record {
           order = g ∙ sym (order_first w a b n h c.equal (sym e) opposite c.short.0 c.short.1);
           looked = sym (looked_first w a b n h c.equal (sym e) opposite);

@@ -4,7 +4,7 @@ use mathlib.Core.Bool.{Bool, true, false, false≢true, true≢false}
 use mathlib.Core.List.{List, [], ◌∷◌}
 use Prim.Native.Nat.{ℕ, zero, suc, ◌+◌, ◌-◌, ◌*◌, ◌/◌, ◌^◌, ◌≤◌, ◌<◌}
 use native.Mathlib.Nat.{pow-succ'}
-use native.Mathlib.Numerals.{add_one}
+use native.Mathlib.Numerals.{add-one}
 use native.Mathlib.Decide.{dec_lt}
 use native.Mathlib.Omega.{arith}
 use borrow.Author.Tests.{eq-eqb, ne_eqb, le-leb, lt-leb}
@@ -24,7 +24,7 @@ beyond_take n a i h = get_or-eq_default (take n a) false (omega (arith, length-t
 
 -- one bit more
 pub value_of_take : (i : ℕ) (a : Bits) {b : Bool} → get_or a i false ≡ b → value_of (take (i + 1) a) ≡ value_of (take i a) + 2 ^ i * bit b
-value_of_take i a e = rw (← e, add_one i) (go i a)
+value_of_take i a e = rw (← e, add-one i) (go i a)
   where
     go : (j : ℕ) (c : Bits) → value_of (take (suc j) c) ≡ value_of (take j c) + 2 ^ j * bit (get_or c j false)
     go zero [] = refl
@@ -106,7 +106,7 @@ spare_at s at = last_at s at / 2 ^ in_last (bits_at s at)
 
 module _ (s : List ℕ) (at : ℕ) (h : at < length s) where
   opened : literal (drop at s) ≡ literal (bits_at s at ∷ behind s at)
-  opened = rw add_one (ap literal (drop-cons s at 0 h))
+  opened = rw add-one (ap literal (drop-cons s at 0 h))
 
   pub read_zero : bits_at s at ≡ 0 → literal (drop at s) ≡ fault 4
   read_zero z = opened ∙ rw (eq-eqb (bits_at s at) 0 z)

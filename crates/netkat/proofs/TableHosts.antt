@@ -5,7 +5,7 @@ use mathlib.Core.Bool.{Bool, true, false, cond}
 use mathlib.Core.List.{List, []}
 use mathlib.Core.Option.{Option}
 use Prim.Native.Nat.{ℕ, suc, ◌+◌, ◌≤◌, ◌<◌, ◌^◌}
-use native.Mathlib.Numerals.{add_one}
+use native.Mathlib.Numerals.{add-one}
 use native.Mathlib.Omega.{arith}
 use borrow.Author.Tests.{ne_eqb}
 use lib.Dec.{eqb, leb, ltb}
@@ -186,6 +186,6 @@ module _ (rules : List Rule) (n w p k : ℕ) (a b : List ℕ × ℕ) where
         ap (λ (x : Answer (Unit {0})). and_then {B = ℕ × List Rule} x (λ _. and_then (lent_rule w p k a b) λ r. ok (suc n, set rules n r))) parts.0
         ∙ ap (λ (y : Answer Rule). and_then {B = ℕ × List Rule} y λ r. ok (suc n, set rules n r)) g in
         record {
-          answer = h ∙ ap (λ (m : ℕ). hosted (ok (m, 0))) (add_one n) ∙ sym (ap (λ (x : Answer (ℕ × List Rule)). hosted (map_answer (λ p. (p.0, 0)) x)) d);
+          answer = h ∙ ap (λ (m : ℕ). hosted (ok (m, 0))) (add-one n) ∙ sym (ap (λ (x : Answer (ℕ × List Rule)). hosted (map_answer (λ p. (p.0, 0)) x)) d);
           places = s ∙ sym (ap (λ (x : Answer (ℕ × List Rule)). rules_after x rules) d);
         }

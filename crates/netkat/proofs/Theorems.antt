@@ -8,7 +8,7 @@ use mathlib.Core.Option.{some}
 use mathlib.Core.List.{List, [], ◌∷◌, map, Memᴰ}
 use Prim.Native.Nat.{ℕ, ◌+◌, ◌-◌, ◌/◌, ◌%◌, ◌^◌, ◌≤◌, ◌<◌}
 use native.Mathlib.Nat.{zero-add}
-use native.Mathlib.Numerals.{add_one}
+use native.Mathlib.Numerals.{add-one}
 use lib.Dec.{leb}
 use lib.ListN.{length, get_or, replicate, take, drop}
 use Rattle.literals.specs.Bits.{Bits, Bytes, bit, bit_at, bits_of}
@@ -242,7 +242,7 @@ core_fields_theorem bs b room r m = same_fields bs room r m b
 -- are left, or none
 pub too_many_theorem : ((c : Core) → Fits (written c) → 65535 < size c → decode_core (encode_core c) ≡ refuse 42 65535)
     × ((due at : ℕ) (bs : List ℕ) → read_cores 0 (due + 1) at bs ≡ refuse 42 at)
-too_many_theorem = (decode_many, (λ due at bs. rw (add_one due) refl))
+too_many_theorem = (decode_many, (λ due at bs. rw (add-one due) refl))
 
 -- by 1 to 5, 8, 41 or 42, then 25, then 10, and no other number (cores/specs/Claims.antt: CoreNumber), at a place of at most 65,535. Which of them it
 -- is, `demand-1` says

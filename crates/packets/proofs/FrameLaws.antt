@@ -4,7 +4,7 @@ use mathlib.Core.Bool.{Bool, true, false, not, cond, ◌&&◌, ◌||◌, false�
 use mathlib.Core.List.{List, [], ◌∷◌}
 use Prim.Native.Nat.{ℕ, zero, suc, ◌+◌, ◌-◌, ◌*◌, ◌/◌, ◌%◌, ◌^◌, ◌≤◌, ◌<◌}
 use native.Mathlib.Nat.{zero-add}
-use native.Mathlib.Numerals.{add_one}
+use native.Mathlib.Numerals.{add-one}
 use native.Mathlib.Omega.{arith}
 use borrow.Author.Tests.{lt-ltb, le-ltb, ltb-true, ltb-false, ne_eqb}
 use lib.Dec.{ltb, eqb}
@@ -186,7 +186,7 @@ module _ (ps : List (List ℕ)) (list : List ℕ) (sofar : Progress) (d : CoreRe
         let n : ℕ = sofar.depth in
         let frame : frame_at (sets list (3 * n) (opened_kind k ∷ (0 % 2 ^ 32) ∷ (0 / 2 ^ 32) ∷ [])) (3 * n) ≡ opened k = frame_put list (3 * n) (opened_kind k) 0 (omega arith) ∙ is_opened k in
         let frames : frames_in list' (n + 1) ≡ opened k ∷ frames_in list n =
-        (λ i. frames_in (w i) (add_one n i)) ∙ (λ i. frames_in (sets list (3 * n) (e i ∷ (0 % 2 ^ 32) ∷ (0 / 2 ^ 32) ∷ [])) (suc n)) ∙ λ i. frame i ∷ frames_below list (3 * n) (opened_kind k ∷ (0 % 2 ^ 32) ∷ (0 / 2 ^ 32) ∷ []) n (omega arith) i in
+        (λ i. frames_in (w i) (add-one n i)) ∙ (λ i. frames_in (sets list (3 * n) (e i ∷ (0 % 2 ^ 32) ∷ (0 / 2 ^ 32) ∷ [])) (suc n)) ∙ λ i. frame i ∷ frames_below list (3 * n) (opened_kind k ∷ (0 % 2 ^ 32) ∷ (0 / 2 ^ 32) ∷ []) n (omega arith) i in
         record {
           is = λ _.
               (λ i. record { skip = 0; frames = frames i; mask = 0 })

@@ -4,7 +4,7 @@ use mathlib.Core.Bool.{Bool, true, false, not, cond, ◌&&◌, ◌||◌, false�
 use mathlib.Core.List.{List, [], ◌∷◌}
 use Prim.Native.Nat.{ℕ, ◌+◌, ◌*◌, ◌≤◌, ◌<◌}
 use native.Mathlib.Omega.{arith}
-use borrow.Author.Tests.{le-leb, lt-leb, lt-ltb, le-ltb, ltb-true, ltb-false, leb-true, not_true, not_false}
+use borrow.Author.Tests.{le-leb, lt-leb, lt-ltb, le-ltb, ltb-true, ltb-false, leb-true, not-true, not-false}
 use lib.Dec.{leb, ltb}
 use lib.ListN.{length}
 use Rattle.literals.specs.Bits.{Bytes}
@@ -69,11 +69,11 @@ module _ (s : List ℕ) (room : ℕ) (slice lengths : List ℕ) where
     opened t f h k = ap (λ x. and_then x behind) q.read ∙ λ i. left ((sym q.test ∙ h) i) (k i)
 
     pub ran_no_test : not d.test ≡ true → refuse 48 0 ≡ run_packets s room slice lengths
-    ran_no_test h = sym (opened false _ (not_true d.test h) refl)
+    ran_no_test h = sym (opened false _ (not-true d.test h) refl)
 
     module _ (no : not d.test ≡ false) where
       t : d.test ≡ true
-      t = not_false d.test no
+      t = not-false d.test no
 
       -- one comparison is wrong
       pub ran_count : (ltb (length lengths) 1 || ltb max_packets (length lengths)) ≡ true → refuse 49 0 ≡ run_packets s room slice lengths

@@ -2,10 +2,10 @@
 use mathlib.Core.Path.{◌≡◌, sym, ap, ◌∙◌}
 use Prim.Native.Nat.{◌+◌, ◌-◌, ◌^◌, ◌≤◌}
 use native.Mathlib.Nat.{pow-succ'}
-use native.Mathlib.Numerals.{add_one}
+use native.Mathlib.Numerals.{add-one}
 use native.Mathlib.Omega.{arith}
 use borrow.Author.Rules.{rules}
-use borrow.Author.Tests.{eq-eqb, ne_eqb, not_true, not_false}
+use borrow.Author.Tests.{eq-eqb, ne_eqb, not-true, not-false}
 use lib.ListN.{take, length-take}
 use Rattle.literals.specs.Bits.{value_of, unpack}
 use Rattle.literals.proofs.Values.{value_of_take, value_of_whole, bit_false}
@@ -29,7 +29,7 @@ returns c =
     let a = c.before.before.before.before.before.args in
     let bits = take a.bits (unpack a.bytes.now) in
     let short = length-take a.bits (unpack a.bytes.now) in
-    let clear = sym c.before.literal-bit.ensures ∙ not_true _ c.if1.true in
+    let clear = sym c.before.literal-bit.ensures ∙ not-true _ c.if1.true in
     let less = bit_false a.width c.before.before.before.loop.i bits c.before.before.loop-test.true (omega arith) clear in
     sym (ne_eqb (value_of bits + 1) (2 ^ a.width) (λ e. omega arith))
 
@@ -43,8 +43,8 @@ loop-again : tie.Need-loop-preserved invariant-loop decreases-loop
 loop-again c =
     let a = take c.before.before.before.before.before.args.bits (unpack c.before.before.before.before.before.args.bytes.now) in
     let i = c.before.before.before.loop.i in
-    let more = value_of_take i a (sym c.before.literal-bit.ensures ∙ not_false _ c.if1.false) in
-    let twice = ap (λ n. 2 ^ n) (add_one i) ∙ pow-succ' 2 i in
+    let more = value_of_take i a (sym c.before.literal-bit.ensures ∙ not-false _ c.if1.false) in
+    let twice = ap (λ n. 2 ^ n) (add-one i) ∙ pow-succ' 2 i in
     omega arith
 
 returns-2 : tie.Need-returns-2 invariant-loop decreases-loop

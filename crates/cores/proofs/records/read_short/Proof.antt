@@ -1,7 +1,7 @@
 -- `cores::records::read_short` meets its contract.
 use mathlib.Core.Path.{sym, ◌∙◌}
 use native.Mathlib.Omega.{arith}
-use borrow.Author.Tests.{not_false}
+use borrow.Author.Tests.{not-false}
 use borrow.Author.Rules.{rules}
 use Rattle.cores.proofs.CoreRecords.{operator_at, atom_at}
 use Rattle.cores.proofs.records.read_short.Statement.{statement}
@@ -79,7 +79,7 @@ add-t8 c = omega (arith, c.before.before.shared-slice-known8.given c.before.befo
 returns-4 : tie.Need-returns-4
 returns-4 c = λ _.
     atom_at c.before.before.before.before.before.before.before.before.before.before.before.before.before.before.args.s.now c.before.before.before.before.before.before.before.before.before.before.before.before.before.before.args.at (omega arith) c.before.before.shared-slice-known8.given c.before.before.before.number_of.ensures
-    (sym c.before.is-atom.ensures ∙ not_false _ c.if3.false)
+    (sym c.before.is-atom.ensures ∙ not-false _ c.if3.false)
 
 pub read-short-spec : {M : Type 1} → statement M
 read-short-spec =

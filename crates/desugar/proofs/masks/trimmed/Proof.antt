@@ -3,7 +3,7 @@ use mathlib.Core.Path.{◌∙◌, ◌≡◌, ap, sym}
 use Prim.Native.Nat.{◌-◌, suc}
 use native.Mathlib.Omega.{arith}
 use borrow.Author.Rules.{rules}
-use borrow.Author.Tests.{not_false, not_true}
+use borrow.Author.Tests.{not-false, not-true}
 use lib.ListN.{take}
 use Rattle.literals.specs.Bits.{unpack}
 use Rattle.desugar.specs.LeafWords.{trim}
@@ -31,7 +31,7 @@ returns c =
     let a = c.before.before.before.before.before.args in
     let end = c.before.before.before.loop.end in
     let down : end ≡ suc (end - 1) = omega arith in
-    sym (trim_here (take a.bits (unpack a.mask.now)) down (sym c.before.literal-bit.ensures ∙ not_true _ c.if1.true)) ∙ c.before.before.before.loop.invariant
+    sym (trim_here (take a.bits (unpack a.mask.now)) down (sym c.before.literal-bit.ensures ∙ not-true _ c.if1.true)) ∙ c.before.before.before.loop.invariant
 
 sub-end : tie.Need-overflow-sub-end invariant-loop decreases-loop
 sub-end c = search rules
@@ -44,7 +44,7 @@ loop-again c =
     let a = c.before.before.before.before.before.args in
     let end = c.before.before.before.loop.end in
     let down : end ≡ suc (end - 1) = omega arith in
-    sym (trim_more (take a.bits (unpack a.mask.now)) down (sym c.before.literal-bit.ensures ∙ not_false _ c.if1.false)) ∙ c.before.before.before.loop.invariant
+    sym (trim_more (take a.bits (unpack a.mask.now)) down (sym c.before.literal-bit.ensures ∙ not-false _ c.if1.false)) ∙ c.before.before.before.loop.invariant
 
 returns-2 : tie.Need-returns-2 invariant-loop decreases-loop
 returns-2 c =

@@ -1,5 +1,5 @@
 -- `desugar::memory::write_record` meets its contract.
-use native.Mathlib.Numerals.{add_one, add-two}
+use native.Mathlib.Numerals.{add-one, add-two}
 use native.Mathlib.Omega.{arith}
 use borrow.Author.Rules.{rules}
 use lib.ListN.{length-set}
@@ -34,7 +34,7 @@ same_length : tie.Need-same-length
 same_length c = search rules
 
 returns : tie.Need-returns
-returns c = rw (add_one, add-two)
+returns c = rw (add-one, add-two)
 
 pub write-record-spec : {M : Type 1} → statement M
 write-record-spec =

@@ -3,7 +3,7 @@ use Prim.Native.Nat.{ℕ, ◌*◌}
 use mathlib.Core.Path.{sym, ap, ◌∙◌}
 use mathlib.Core.Logic.{inl}
 use native.Mathlib.Omega.{arith}
-use borrow.Author.Tests.{not_true, not_false}
+use borrow.Author.Tests.{not-true, not-false}
 use borrow.Author.Rules.{rules}
 use Rattle.desugar.proofs.Regions.{kept_all, kept_then, kept_less}
 use Rattle.desugar.proofs.PlainNegation.{plain_large, plain_fits}
@@ -50,19 +50,19 @@ same-length-3 : tie.Need-same-length-3
 same-length-3 c = search rules
 
 returns-3 : tie.Need-returns-3
-returns-3 c = (kept_all _ _, λ t h. no_test_fact (sym (c.before.is_test_fact.ensures t h) ∙ not_true _ c.if3.true))
+returns-3 c = (kept_all _ _, λ t h. no_test_fact (sym (c.before.is_test_fact.ensures t h) ∙ not-true _ c.if3.true))
 
 measure-requires : tie.Need-measure-requires
 measure-requires c κs =
     let p = c.before.before.before.before.before.before.before.before.requires in
-    ((p.1.0, p.1.1, sym (c.before.before.is_test_fact.ensures p.1.0 p.1.1) ∙ not_false _ c.before.if3.false), omega (arith, p.0.0))
+    ((p.1.0, p.1.1, sym (c.before.before.is_test_fact.ensures p.1.0 p.1.1) ∙ not-false _ c.before.if3.false), omega (arith, p.0.0))
 
 -- From here on m is the place after `measure`, and s the start.
 negate-requires : tie.Need-negate-requires
 negate-requires c κs =
     let m = c.before.before.before in
     let s = m.before.before.before.before.before.before.before.before.before in
-    let noted = noted_after s.requires.0.0 m.before.before.before.is_test_fact.ensures (not_false _ m.before.before.if3.false) m.measure.ensures.0 m.measure.ensures.1 in
+    let noted = noted_after s.requires.0.0 m.before.before.before.is_test_fact.ensures (not-false _ m.before.before.if3.false) m.measure.ensures.0 m.measure.ensures.1 in
     (rw m.measure.ensures.0.long s.requires.0.0, (s.requires.1.0, noted s.requires.1.0 s.requires.1.1))
 
 enum-known-negated : tie.Need-enum-known-negated
@@ -78,7 +78,7 @@ copy-requires : tie.Need-copy-requires
 copy-requires c κs =
     let m = c.before.before.before.before.before.before.before.before.before.before.before in
     let s = m.before.before.before.before.before.before.before.before.before in
-    let noted = noted_after s.requires.0.0 m.before.before.before.is_test_fact.ensures (not_false _ m.before.before.if3.false) m.measure.ensures.0 m.measure.ensures.1 in
+    let noted = noted_after s.requires.0.0 m.before.before.before.is_test_fact.ensures (not-false _ m.before.before.if3.false) m.measure.ensures.0 m.measure.ensures.1 in
     let size = size_is (c.before.before.before.before.before.before.before.negate.ensures.1 s.requires.1.0 (noted s.requires.1.0 s.requires.1.1)) c.before.before.before.negated.given.1 in
     record {
       source = omega (arith, size, s.requires.0.0, c.before.wide.ensures, m.measure.ensures.0.long, c.before.before.before.before.before.before.before.negate.ensures.0.long);
@@ -96,7 +96,7 @@ returns-4 : tie.Need-returns-4
 returns-4 c =
     let m = c.before.before.before.before.before.before.before.before.before.before.before.before.before.before in
     let s = m.before.before.before.before.before.before.before.before.before in
-    let noted = noted_after s.requires.0.0 m.before.before.before.is_test_fact.ensures (not_false _ m.before.before.if3.false) m.measure.ensures.0 m.measure.ensures.1 in
+    let noted = noted_after s.requires.0.0 m.before.before.before.is_test_fact.ensures (not-false _ m.before.before.if3.false) m.measure.ensures.0 m.measure.ensures.1 in
     let negate = c.before.before.before.before.before.before.before.before.before.before.negate.ensures in
     let down = c.before.before.copy.ensures in (
       kept_then (kept_less (omega (arith, s.requires.0.0, s.requires.0.1)) m.measure.ensures.0) (kept_then (kept_less (omega (arith, s.requires.0.0, s.requires.0.1)) negate.0) down.0),
@@ -110,7 +110,7 @@ returns-5 : tie.Need-returns-5
 returns-5 c =
     let m = c.before.before.before.before.before.before.before.before in
     let s = m.before.before.before.before.before.before.before.before.before in
-    let noted = noted_after s.requires.0.0 m.before.before.before.is_test_fact.ensures (not_false _ m.before.before.if3.false) m.measure.ensures.0 m.measure.ensures.1 in
+    let noted = noted_after s.requires.0.0 m.before.before.before.is_test_fact.ensures (not-false _ m.before.before.if3.false) m.measure.ensures.0 m.measure.ensures.1 in
     let negate = c.before.before.before.before.negate.ensures in (
       kept_then (kept_less (omega (arith, s.requires.0.0, s.requires.0.1)) m.measure.ensures.0) (kept_less (omega (arith, s.requires.0.0, s.requires.0.1)) negate.0),
       λ t h. large (noted t h).test (negate.1 t (noted t h)) c.enum_told.given.1,

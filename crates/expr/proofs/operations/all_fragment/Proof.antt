@@ -2,7 +2,7 @@
 use mathlib.Core.Path.{sym, ◌∙◌}
 use Prim.Native.Nat.{◌-◌}
 use native.Mathlib.Omega.{arith}
-use borrow.Author.Tests.{not_true, not_false}
+use borrow.Author.Tests.{not-true, not-false}
 use borrow.Author.Rules.{rules}
 use lib.ListN.{length}
 use Rattle.expr.proofs.Scans.{never_refused, step}
@@ -51,7 +51,7 @@ returns-2 c =
     let r = c.before.before.before.before.before in
     let l = r.before.before.before.loop.invariant in
     fragment_no l (step l.left r.before.before.loop-test.true r.read-record.ensures c.before.before.before.head.given.1)
-    (sym (not_true _ c.if1.true) ∙ c.before.is-fragment-kind.ensures)
+    (sym (not-true _ c.if1.true) ∙ c.before.is-fragment-kind.ensures)
 
 add_at : tie.Need-overflow-add-at invariant-loop decreases-loop
 add_at c =
@@ -72,7 +72,7 @@ loop-again c =
     let r = c.before.before.before.before.before.before in
     let l = r.before.before.before.loop.invariant in
     fragment_step l (step l.left r.before.before.loop-test.true r.read-record.ensures c.before.before.before.before.head.given.1)
-    (sym (not_false _ c.before.if1.false) ∙ c.before.before.is-fragment-kind.ensures)
+    (sym (not-false _ c.before.if1.false) ∙ c.before.before.is-fragment-kind.ensures)
 
 returns-3 : tie.Need-returns-3 invariant-loop decreases-loop
 returns-3 c = fragment_end c.before.loop.invariant c.loop-test.false

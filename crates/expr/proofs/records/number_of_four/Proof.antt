@@ -1,7 +1,7 @@
 -- `expr::number_of_four` meets its contract: a byte is below 256, so the sum fits.
 use Prim.Native.Nat.{◌+◌, ◌*◌, ◌^◌, ◌<◌}
 use native.Mathlib.Omega.{arith}
-use borrow.Author.Tests.{not_true, not_false}
+use borrow.Author.Tests.{not-true, not-false}
 use borrow.Author.Rules.{rules}
 use lib.ListN.{get_or}
 use Rattle.expr.proofs.Numbers.{four_bytes, number_absent, number_lacking, number_zero, number_value}
@@ -20,13 +20,13 @@ small c =
     omega (arith, byte at, byte (at + 1), byte (at + 2), byte (at + 3))
 
 returns : tie.Need-returns
-returns c = number_absent 4 _ _ (not_true c.before.args.stands c.if1.true) c.before.requires (omega arith)
+returns c = number_absent 4 _ _ (not-true c.before.args.stands c.if1.true) c.before.requires (omega arith)
 
 sub-if2 : tie.Need-overflow-sub-if2
 sub-if2 c = search rules
 
 returns-2 : tie.Need-returns-2
-returns-2 c = number_lacking 4 _ _ (not_false c.before.before.args.stands c.before.if1.false) c.if2.true
+returns-2 c = number_lacking 4 _ _ (not-false c.before.before.args.stands c.before.if1.false) c.if2.true
 
 add-high : tie.Need-overflow-add-high
 add-high c = search rules
@@ -85,7 +85,7 @@ returns-3 : tie.Need-returns-3
 returns-3 c =
     let start = c.before.before.before.before.before.before.before in
     let long = c.before.before.before.before.before.if2.false in
-    let stands = not_false start.args.stands c.before.before.before.before.before.before.if1.false in
+    let stands = not-false start.args.stands c.before.before.before.before.before.before.if1.false in
     number_zero 4 _ _ stands long _ (four_bytes start.args.at start.args.s.now long) c.if3.true
 
 add-t9 : tie.Need-overflow-add-t9
@@ -95,7 +95,7 @@ returns-4 : tie.Need-returns-4
 returns-4 c =
     let start = c.before.before.before.before.before.before.before in
     let long = c.before.before.before.before.before.if2.false in
-    let stands = not_false start.args.stands c.before.before.before.before.before.before.if1.false in
+    let stands = not-false start.args.stands c.before.before.before.before.before.before.if1.false in
     number_value 4 _ _ stands long _ (four_bytes start.args.at start.args.s.now long) c.if3.false
     (small c.before) start.requires
 

@@ -1,7 +1,7 @@
 -- `expr::number_of_two` meets its contract: a byte is below 256, so the sum fits.
 use Prim.Native.Nat.{◌+◌, ◌*◌, ◌^◌, ◌<◌}
 use native.Mathlib.Omega.{arith}
-use borrow.Author.Tests.{not_true, not_false}
+use borrow.Author.Tests.{not-true, not-false}
 use borrow.Author.Rules.{rules}
 use lib.ListN.{get_or}
 use Rattle.expr.proofs.Numbers.{two_bytes, number_absent, number_lacking, number_zero, number_value}
@@ -19,13 +19,13 @@ small c =
     omega (arith, byte at, byte (at + 1))
 
 returns : tie.Need-returns
-returns c = number_absent 2 _ _ (not_true c.before.args.stands c.if1.true) c.before.requires (omega arith)
+returns c = number_absent 2 _ _ (not-true c.before.args.stands c.if1.true) c.before.requires (omega arith)
 
 sub-if2 : tie.Need-overflow-sub-if2
 sub-if2 c = search rules
 
 returns-2 : tie.Need-returns-2
-returns-2 c = number_lacking 2 _ _ (not_false c.before.before.args.stands c.before.if1.false) c.if2.true
+returns-2 c = number_lacking 2 _ _ (not-false c.before.before.args.stands c.before.if1.false) c.if2.true
 
 shared-slice-read-value : tie.Need-shared-slice-read-value
 shared-slice-read-value c = search rules
@@ -52,7 +52,7 @@ returns-3 : tie.Need-returns-3
 returns-3 c =
     let start = c.before.before.before.before.before in
     let long = c.before.before.before.if2.false in
-    let stands = not_false start.args.stands c.before.before.before.before.if1.false in
+    let stands = not-false start.args.stands c.before.before.before.before.if1.false in
     number_zero 2 _ _ stands long _ (two_bytes start.args.at start.args.s.now long) c.if3.true
 
 add-t8 : tie.Need-overflow-add-t8
@@ -62,7 +62,7 @@ returns-4 : tie.Need-returns-4
 returns-4 c =
     let start = c.before.before.before.before.before in
     let long = c.before.before.before.if2.false in
-    let stands = not_false start.args.stands c.before.before.before.before.if1.false in
+    let stands = not-false start.args.stands c.before.before.before.before.if1.false in
     number_value 2 _ _ stands long _ (two_bytes start.args.at start.args.s.now long) c.if3.false
     (small c.before) start.requires
 

@@ -3,7 +3,7 @@ use mathlib.Core.Path.{◌≡◌, refl, sym, subst, ◌∙◌}
 use mathlib.Core.List.{List}
 use Prim.Native.Nat.{ℕ, ◌≤◌}
 use native.Mathlib.Omega.{arith}
-use borrow.Author.Tests.{le-leb, lt-leb, not_true, not_false}
+use borrow.Author.Tests.{le-leb, lt-leb, not-true, not-false}
 use borrow.Author.Rules.{rules}
 use lib.Dec.{leb}
 use lib.ListN.{get_or, drop}
@@ -92,13 +92,13 @@ none-foreign-requires c κs = search rules
 returns-4 : tie.Need-returns-4
 returns-4 c =
     let place = c.before.before.before.before.before in
-    let foreign = sym c.before.none-foreign.ensures ∙ not_true _ c.if3.true in
+    let foreign = sym c.before.none-foreign.ensures ∙ not-true _ c.if3.true in
     record { answer = onward _ (mapped place) (onward _ (known place c.before.before.before.if2.false) (denied 3 _ _ foreign)); inside = omega arith }
 
 returns-5 : tie.Need-returns-5
 returns-5 c =
     let place = c.before.before.before.before.before in
-    let none-foreign = sym c.before.none-foreign.ensures ∙ not_false _ c.if3.false in
+    let none-foreign = sym c.before.none-foreign.ensures ∙ not-false _ c.if3.false in
     record {
       answer = onward _ (mapped place) (onward _ (known place c.before.before.before.if2.false) (asked 3 _ _ none-foreign refl));
       inside = ((kinded place).inside.0, (kinded place).inside.1, c.before.before.before.if2.false);

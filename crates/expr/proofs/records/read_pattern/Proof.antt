@@ -4,7 +4,7 @@ use mathlib.Core.Path.{◌≡◌, refl, sym, subst, ◌∙◌}
 use mathlib.Core.Bool.{Bool, true, ◌||◌}
 use Prim.Native.Nat.{ℕ, ◌≤◌}
 use native.Mathlib.Omega.{arith}
-use borrow.Author.Tests.{le-leb, lt-leb, not_true, not_false}
+use borrow.Author.Tests.{le-leb, lt-leb, not-true, not-false}
 use borrow.Author.Rules.{rules}
 use lib.Dec.{leb}
 use lib.ListN.{drop}
@@ -68,7 +68,7 @@ suited : (c : Suited) {z : Read (ℕ × ℕ)}
     → z ≡ read_pattern (start c).args.map (start c).args.kind (drop (start c).args.at (start c).args.s.now)
 suited c e =
     onward _ (known (patternAt c) c.before.before.if1.false)
-    (asked 3 _ _ (sym c.before.suits-pattern.ensures ∙ not_false _ c.if2.false) e)
+    (asked 3 _ _ (sym c.before.suits-pattern.ensures ∙ not-false _ c.if2.false) e)
 
 -- the number was read
 abbrev Numbered : Type 0
@@ -108,7 +108,7 @@ suits-pattern-requires c κs = search rules
 
 returns-3 : tie.Need-returns-3
 returns-3 c =
-    let misfit = sym c.before.suits-pattern.ensures ∙ not_true _ c.if2.true in
+    let misfit = sym c.before.suits-pattern.ensures ∙ not-true _ c.if2.true in
     record { answer = onward _ (known c.before.before.before.before c.before.before.if1.false) (denied 3 _ _ misfit); inside = omega arith }
 
 number-of-one-requires-2 : tie.Need-number-of-one-requires-2
@@ -131,7 +131,7 @@ returns-5 : tie.Need-returns-5
 returns-5 c =
     let place = suitedAt c.before.before in
     let k = (start place).args.kind in
-    let over = test_denied (fits k) 5 (fits-zero k) (numbered c.before.before) (not_true _ c.if3.true) in
+    let over = test_denied (fits k) 5 (fits-zero k) (numbered c.before.before) (not-true _ c.if3.true) in
     record { answer = suited place (faulted _ over); inside = omega arith }
 
 returns-6 : tie.Need-returns-6
@@ -140,7 +140,7 @@ returns-6 c =
     let k = (start place).args.kind in
     let read = numbered c.before.before in
     record {
-      answer = suited place (onward _ (test_passed (fits k) 5 (fits-zero k) read (not_false _ c.if3.false)) refl);
+      answer = suited place (onward _ (test_passed (fits k) 5 (fits-zero k) read (not-false _ c.if3.false)) refl);
       inside = (omega (arith, (patterned (patternAt place)).inside, read.inside), read.inside.1);
     }
 

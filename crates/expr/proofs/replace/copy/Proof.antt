@@ -1,9 +1,9 @@
 -- `replace::copy` meets its contract.
 use mathlib.Core.Path.{◌≡◌, refl, ap, ◌∙◌}
 use Prim.Native.Nat.{◌+◌, ◌-◌, ◌≤◌}
-use native.Mathlib.Numerals.{add_one}
+use native.Mathlib.Numerals.{add-one}
 use native.Mathlib.Omega.{arith}
-use borrow.Author.Tests.{not_true, not_false}
+use borrow.Author.Tests.{not-true, not-false}
 use lib.ListN.{length, length-set}
 use lib.Seq.{paste, paste-zero, paste-suc}
 use Rattle.expr.proofs.Copied.{pasted_is}
@@ -20,10 +20,10 @@ abbrev decreases-loop : tie.decreases-loop
 decreases-loop from out₀ at write n i₀ out i = n - i
 
 returns : tie.Need-returns invariant-loop decreases-loop
-returns c = rw (not_true c.before.args.write c.if1.true)
+returns c = rw (not-true c.before.args.write c.if1.true)
 
 loop-holds : tie.Need-loop-init invariant-loop decreases-loop
-loop-holds c = let a = c.before.args in (omega arith, refl, paste-zero a.out.now a.at a.from.now, c.before.requires (not_false a.write c.if1.false))
+loop-holds c = let a = c.before.args in (omega arith, refl, paste-zero a.out.now a.at a.from.now, c.before.requires (not-false a.write c.if1.false))
 
 shared-slice-read-out : tie.Need-shared-slice-read-out invariant-loop decreases-loop
 shared-slice-read-out c = omega arith
@@ -46,7 +46,7 @@ loop-again c =
     let l = c.before.before.loop in (
       omega arith,
       simp length-set l.invariant.1,
-      rw (l.invariant.2, add_one l.i) (paste-suc a.out.now a.at a.from.now l.i 0 (omega arith) (omega arith)),
+      rw (l.invariant.2, add-one l.i) (paste-suc a.out.now a.at a.from.now l.i 0 (omega arith) (omega arith)),
       l.invariant.3,
     )
 
@@ -58,7 +58,7 @@ returns-2 c =
     let a = c.before.before.before.args in
     let l = c.before.loop in
     let all : l.i ≡ length a.from.now = omega arith in
-    rw (not_false a.write c.before.before.if1.false)
+    rw (not-false a.write c.before.before.if1.false)
     (l.invariant.2 ∙ ap (paste a.out.now a.at a.from.now) all ∙ pasted_is a.at a.from.now a.out.now)
 
 pub copy_spec : {M : Type 1} → statement M

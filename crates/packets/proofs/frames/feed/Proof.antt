@@ -3,7 +3,7 @@ use mathlib.Core.Bool.{Bool, true, false, not}
 use mathlib.Core.Path.{refl, sym, ◌∙◌}
 use Prim.Native.Nat.{◌-◌, ◌*◌, ◌≤◌}
 use native.Mathlib.Omega.{arith}
-use borrow.Author.Tests.{ltb-true, not_true}
+use borrow.Author.Tests.{ltb-true, not-true}
 use borrow.Author.Rules.{rules}
 use lib.Dec.{ltb}
 use lib.ListN.{get_or}
@@ -50,7 +50,7 @@ returns : tie.Need-returns invariant-loop decreases-loop
 returns c =
     let kind = get_or c.before.before.before.before.before.before.before.before.loop.list (3 * (c.before.before.before.before.before.before.before.before.loop.depth - 1)) 0 in
     let settled = c.before.before.before.before.before.is-settled.result in (
-      feed_second c.before.before.before.before.before.before.before.before.loop.invariant c.before.before.before.before.before.before.before.loop-test.true c.before.before.before.before.before.before.before.before.before.before.requires (and_left (ltb kind 16) (not settled) c.before.before.before.before.if1.true) (sym c.before.before.before.before.before.is-settled.ensures ∙ not_true settled (and_right (ltb kind 16) (not settled) c.before.before.before.before.if1.true)) c.before.before.put-frame.ensures,
+      feed_second c.before.before.before.before.before.before.before.before.loop.invariant c.before.before.before.before.before.before.before.loop-test.true c.before.before.before.before.before.before.before.before.before.before.requires (and_left (ltb kind 16) (not settled) c.before.before.before.before.if1.true) (sym c.before.before.before.before.before.is-settled.ensures ∙ not-true settled (and_right (ltb kind 16) (not settled) c.before.before.before.before.if1.true)) c.before.before.put-frame.ensures,
       omega (arith, c.before.before.before.before.before.before.before.before.loop.invariant.low),
     )
 

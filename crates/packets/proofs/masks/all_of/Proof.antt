@@ -3,7 +3,7 @@ use mathlib.Core.Path.{◌≡◌, refl, ap, ◌∙◌}
 use Prim.Native.Nat.{◌+◌, ◌-◌, ◌^◌, ◌≤◌}
 use native.Mathlib.Omega.{arith}
 use native.Mathlib.Nat.{pow-succ'}
-use native.Mathlib.Numerals.{add_one}
+use native.Mathlib.Numerals.{add-one}
 use borrow.Author.Rules.{rules}
 use lib.Pow.{pow_mono}
 use Rattle.packets.proofs.masks.all_of.Statement.{statement}
@@ -31,7 +31,7 @@ loop-less : tie.Need-loop-smaller invariant-loop decreases-loop
 loop-less c = search rules
 
 loop-again : tie.Need-loop-preserved invariant-loop decreases-loop
-loop-again c = (omega arith, rw (add_one c.before.loop.i, pow-succ' 2 c.before.loop.i) (omega (arith, c.before.loop.invariant.1)))
+loop-again c = (omega arith, rw (add-one c.before.loop.i, pow-succ' 2 c.before.loop.i) (omega (arith, c.before.loop.invariant.1)))
 
 returns : tie.Need-returns invariant-loop decreases-loop
 returns c = let e : c.before.loop.i ≡ c.before.before.args.n = omega (arith, c.before.loop.invariant.0) in c.before.loop.invariant.1 ∙ ap (λ k. 2 ^ k) e

@@ -2,7 +2,7 @@
 use mathlib.Core.Path.{sym, ◌∙◌}
 use Prim.Native.Nat.{◌+◌}
 use native.Mathlib.Omega.{arith}
-use borrow.Author.Tests.{not_false}
+use borrow.Author.Tests.{not-false}
 use borrow.Author.Rules.{rules}
 use Rattle.packets.proofs.PassLaws.{field_below, pair_at}
 use Rattle.packets.proofs.skim.read_pair.Statement.{statement}
@@ -81,10 +81,10 @@ add-t18 : tie.Need-overflow-add-t18
 add-t18 c = omega (arith, c.before.before.shared-slice-known10.given (c.before.before.before.before.before.before.before.before.before.before.before.before.before.before.args.at + 2))
 
 add-t26 : tie.Need-overflow-add-t26
-add-t26 c = omega (arith, field_below c.before.before.before.before.before.before.before.before.before.before.before.before.before.before.args.s.now c.before.before.before.before.before.before.before.before.before.before.before.before.before.before.args.at (omega (arith, c.before.before.before.before.before.before.before.before.before.before.before.before.if1.false, c.before.before.before.before.before.before.before.before.before.before.before.before.before.before.requires)) c.before.before.shared-slice-known10.given c.before.before.before.before.before.before.number_of.ensures (sym c.before.is-pair.ensures ∙ not_false _ c.if2.false))
+add-t26 c = omega (arith, field_below c.before.before.before.before.before.before.before.before.before.before.before.before.before.before.args.s.now c.before.before.before.before.before.before.before.before.before.before.before.before.before.before.args.at (omega (arith, c.before.before.before.before.before.before.before.before.before.before.before.before.if1.false, c.before.before.before.before.before.before.before.before.before.before.before.before.before.before.requires)) c.before.before.shared-slice-known10.given c.before.before.before.before.before.before.number_of.ensures (sym c.before.is-pair.ensures ∙ not-false _ c.if2.false))
 
 returns-3 : tie.Need-returns-3
-returns-3 c = λ _. pair_at c.before.before.before.before.before.before.before.before.before.before.before.before.before.before.args.s.now c.before.before.before.before.before.before.before.before.before.before.before.before.before.before.args.at (omega (arith, c.before.before.before.before.before.before.before.before.before.before.before.before.if1.false, c.before.before.before.before.before.before.before.before.before.before.before.before.before.before.requires)) c.before.before.shared-slice-known10.given c.before.before.before.before.before.before.number_of.ensures (sym c.before.is-pair.ensures ∙ not_false _ c.if2.false)
+returns-3 c = λ _. pair_at c.before.before.before.before.before.before.before.before.before.before.before.before.before.before.args.s.now c.before.before.before.before.before.before.before.before.before.before.before.before.before.before.args.at (omega (arith, c.before.before.before.before.before.before.before.before.before.before.before.before.if1.false, c.before.before.before.before.before.before.before.before.before.before.before.before.before.before.requires)) c.before.before.shared-slice-known10.given c.before.before.before.before.before.before.number_of.ensures (sym c.before.is-pair.ensures ∙ not-false _ c.if2.false)
 
 pub read-pair-spec : {M : Type 1} → statement M
 read-pair-spec =

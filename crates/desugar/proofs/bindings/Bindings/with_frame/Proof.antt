@@ -1,7 +1,7 @@
 -- `bindings::Bindings::with_frame` meets its contract.
 use mathlib.Core.Path.{refl}
 use native.Mathlib.Omega.{arith}
-use native.Mathlib.Numerals.{add_one, add-two, add-three, add-four}
+use native.Mathlib.Numerals.{add-one, add-two, add-three, add-four}
 use lib.ListN.{length-set}
 use borrow.Author.Rules.{rules}
 use Rattle.desugar.proofs.bindings.Bindings.with_frame.Statement.{statement}
@@ -59,7 +59,7 @@ same_length : tie.Need-same-length
 same_length c = search rules
 
 returns : tie.Need-returns
-returns c = (refl, rw (add_one, add-two, add-three, add-four))
+returns c = (refl, rw (add-one, add-two, add-three, add-four))
 
 pub with-frame-spec : {M : Type 1} → statement M
 with-frame-spec =

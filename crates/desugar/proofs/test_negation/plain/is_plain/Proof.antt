@@ -4,9 +4,9 @@ use mathlib.Core.Bool.{and_true}
 use mathlib.Core.List.{[], ◌∷◌}
 use Prim.Native.Nat.{◌≤◌, ◌-◌}
 use native.Mathlib.Omega.{arith}
-use native.Mathlib.Numerals.{add_one}
+use native.Mathlib.Numerals.{add-one}
 use borrow.Author.Rules.{rules}
-use borrow.Author.Tests.{not_true, not_false}
+use borrow.Author.Tests.{not-true, not-false}
 use Rattle.expr.specs.Terms.{Core}
 use Rattle.desugar.specs.PlainNegation.{plain_kind, is_plain}
 use Rattle.desugar.specs.Memory.{Lies}
@@ -43,7 +43,7 @@ plain-kind-requires c κs = search rules
 returns : tie.Need-returns invariant-loop decreases-loop
 returns c t h =
     let l = c.before.before.before.before in
-    sym (l.loop.invariant.1 t h ∙ kind_at plain_kind all_plain plain_open t h l.loop.j (omega arith) (sym c.before.plain-kind.ensures ∙ not_true _ c.if1.true))
+    sym (l.loop.invariant.1 t h ∙ kind_at plain_kind all_plain plain_open t h l.loop.j (omega arith) (sym c.before.plain-kind.ensures ∙ not-true _ c.if1.true))
 
 add-j : tie.Need-overflow-add-j invariant-loop decreases-loop
 add-j c = search rules
@@ -54,7 +54,7 @@ loop-less c = search rules
 loop-again : tie.Need-loop-preserved invariant-loop decreases-loop
 loop-again c =
     let l = c.before.before.before.before in
-    (omega arith, λ t h. rw add_one (l.loop.invariant.1 t h ∙ kind_at plain_kind all_plain plain_open t h l.loop.j (omega arith) (sym c.before.plain-kind.ensures ∙ not_false _ c.if1.false)))
+    (omega arith, λ t h. rw add-one (l.loop.invariant.1 t h ∙ kind_at plain_kind all_plain plain_open t h l.loop.j (omega arith) (sym c.before.plain-kind.ensures ∙ not-false _ c.if1.false)))
 
 returns-2 : tie.Need-returns-2 invariant-loop decreases-loop
 returns-2 c t h = sym (c.before.loop.invariant.1 t h ∙ ap all_plain (over_at t h c.before.loop.j (omega arith)))

@@ -4,7 +4,7 @@ use native.Mathlib.Omega.{arith}
 use mathlib.Core.Path.{◌∙◌}
 use mathlib.Core.List.{List}
 use Prim.Native.Nat.{ℕ, ◌+◌}
-use borrow.Author.Tests.{not_true, not_false}
+use borrow.Author.Tests.{not-true, not-false}
 use lib.ListN.{length}
 use Rattle.expr.specs.Form.{encode}
 use Rattle.expr.specs.Terms.{records}
@@ -133,7 +133,7 @@ module _ (t : ℕ) where
   if-then-else-same-length-4 c = c.before.before.before.before.before.before.before.check-with-env3.auto.1.1.1.1.1.0 ∙ c.before.before.before.before.before.before.before.before.before.before.before.before.before.before.check-with-env2.auto.1.1.1.1.1.0 ∙ c.before.before.before.before.before.before.before.before.before.before.before.before.before.before.before.before.before.before.before.before.before.check-with-env.auto.1.1.1.1.1.0
 
   pub if-then-else-returns-4 : if-then-else-lts.Need-returns-4 (if-then-else-claims t) (if-then-else-at t) if-then-else.Post
-  if-then-else-returns-4 c = λ q. condition_refused c.before.before.before.before.before.before.before.before.before.before.before.before.before.before.before.before.before.before.before.before.before.before.before.before.before.args.place q (found₁ c.before.before.before.before.before.before.before.before.before.before.before.before.before.before.before.before q) (found₂ c.before.before.before.before.before.before.before.before.before q) (found₃ c.before.before q) (not_true _ c.if1.true)
+  if-then-else-returns-4 c = λ q. condition_refused c.before.before.before.before.before.before.before.before.before.before.before.before.before.before.before.before.before.before.before.before.before.before.before.before.before.args.place q (found₁ c.before.before.before.before.before.before.before.before.before.before.before.before.before.before.before.before q) (found₂ c.before.before.before.before.before.before.before.before.before q) (found₃ c.before.before q) (not-true _ c.if1.true)
 
   pub if-then-else-both-requires : if-then-else-lts.Need-both-requires (if-then-else-claims t) (if-then-else-at t) if-then-else.Post
   if-then-else-both-requires c κs = search rules
@@ -142,4 +142,4 @@ module _ (t : ℕ) where
   if-then-else-same-length-5 c = c.before.before.before.before.before.before.before.before.check-with-env3.auto.1.1.1.1.1.0 ∙ c.before.before.before.before.before.before.before.before.before.before.before.before.before.before.before.check-with-env2.auto.1.1.1.1.1.0 ∙ c.before.before.before.before.before.before.before.before.before.before.before.before.before.before.before.before.before.before.before.before.before.before.check-with-env.auto.1.1.1.1.1.0
 
   pub if-then-else-returns-5 : if-then-else-lts.Need-returns-5 (if-then-else-claims t) (if-then-else-at t) if-then-else.Post
-  if-then-else-returns-5 c = λ q. if_done c.before.before.before.before.before.before.before.before.before.before.before.before.before.before.before.before.before.before.before.before.before.before.before.before.before.before.args.place q (found₁ c.before.before.before.before.before.before.before.before.before.before.before.before.before.before.before.before.before q) (found₂ c.before.before.before.before.before.before.before.before.before.before q) (found₃ c.before.before.before q) (not_false _ c.before.if1.false) c.both.ensures
+  if-then-else-returns-5 c = λ q. if_done c.before.before.before.before.before.before.before.before.before.before.before.before.before.before.before.before.before.before.before.before.before.before.before.before.before.before.args.place q (found₁ c.before.before.before.before.before.before.before.before.before.before.before.before.before.before.before.before.before q) (found₂ c.before.before.before.before.before.before.before.before.before.before q) (found₃ c.before.before.before q) (not-false _ c.before.if1.false) c.both.ensures

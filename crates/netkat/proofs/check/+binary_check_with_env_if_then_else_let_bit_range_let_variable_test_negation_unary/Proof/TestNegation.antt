@@ -3,7 +3,7 @@ use borrow.Author.Rules.{rules}
 use native.Mathlib.Omega.{arith}
 use mathlib.Core.List.{List}
 use Prim.Native.Nat.{ℕ, ◌+◌}
-use borrow.Author.Tests.{not_true, not_false}
+use borrow.Author.Tests.{not-true, not-false}
 use Rattle.desugar.proofs.WalkLaws.{then_refused}
 use Rattle.netkat.specs.declared.check.Sorted.{Sorted}
 use Rattle.netkat.specs.CheckWords.{CheckReady, CheckOne}
@@ -61,10 +61,10 @@ module _ (t : ℕ) where
   test-negation-same-length-2 c = search rules
 
   pub test-negation-returns-2 : test-negation-lts.Need-returns-2 (test-negation-claims t) (test-negation-at t) test-negation.Post
-  test-negation-returns-2 c = λ q. negation_refused c.before.before.before.before.before.before.before.before.before.before.before.args.place q (found₁ c.before.before q) (not_true _ c.if1.true)
+  test-negation-returns-2 c = λ q. negation_refused c.before.before.before.before.before.before.before.before.before.before.before.args.place q (found₁ c.before.before q) (not-true _ c.if1.true)
 
   pub test-negation-same-length-3 : test-negation-lts.Need-same-length-3 (test-negation-claims t) (test-negation-at t) test-negation.Post
   test-negation-same-length-3 c = search rules
 
   pub test-negation-returns-3 : test-negation-lts.Need-returns-3 (test-negation-claims t) (test-negation-at t) test-negation.Post
-  test-negation-returns-3 c = λ q. negation_done c.before.before.before.before.before.before.before.before.before.before.before.args.place q (found₁ c.before.before q) (not_false _ c.if1.false)
+  test-negation-returns-3 c = λ q. negation_done c.before.before.before.before.before.before.before.before.before.before.before.args.place q (found₁ c.before.before q) (not-false _ c.if1.false)

@@ -6,7 +6,7 @@ use Rattle.netkat.specs.contracts.Answer.{the_type}
 use Rattle.netkat.proofs.Answer.TheLaws.{the_copy, the_laws, the_plain}
 use borrow.Author.Called.{Called, called}
 use borrow.Author.Called
-use borrow.Author.Tests.{eqb-false, eqb-true, not_false, not_true}
+use borrow.Author.Tests.{eqb-false, eqb-true, not-false, not-true}
 use borrow.Fn.Any.{want_q}
 use borrow.Fn.Call.{call_b, sub_id}
 use borrow.Fn.Enter.{Fixs, lasts_p, parts_p, tys_p}
@@ -1384,7 +1384,7 @@ module _ (claims· : Claims) where
               before = record { before = c.before; add-refusal = c.add-refusal };
               if1 = record {
                 taken = eqb-false
-                    (Row.get 11 (List.◌++◌ t4 t1) (m4 c.before (After-add-refusal·gave c))) 0 (not_true (eqb (Row.get 11 (List.◌++◌ t4 t1) (m4 c.before
+                    (Row.get 11 (List.◌++◌ t4 t1) (m4 c.before (After-add-refusal·gave c))) 0 (not-true (eqb (Row.get 11 (List.◌++◌ t4 t1) (m4 c.before
                     (After-add-refusal·gave c))) 0) taken);
               };
             },
@@ -1392,7 +1392,7 @@ module _ (claims· : Claims) where
               before = record { before = c.before; add-refusal = c.add-refusal };
               if1 =
                   record {
-                    left = eqb-true (Row.get 11 (List.◌++◌ t4 t1) (m4 c.before (After-add-refusal·gave c))) 0 (not_false (eqb (Row.get 11 (List.◌++◌ t4
+                    left = eqb-true (Row.get 11 (List.◌++◌ t4 t1) (m4 c.before (After-add-refusal·gave c))) 0 (not-false (eqb (Row.get 11 (List.◌++◌ t4
                         t1) (m4 c.before (After-add-refusal·gave c))) 0) left);
                   };
             },
