@@ -1,4 +1,6 @@
 // Literals: bits packed in bytes, lowest bit first. A literal is given by the bytes that its bits begin in, and how many bits it has.
+#![tactic(auto)]
+
 ghost use Rattle.std.specs.Prelude.{◌≡◌, false, cond, ◌+◌, ◌^◌, ◌≤◌, eqb, length, get_or, take};
 ghost use Rattle.literals.specs.Bits.{value_of, unpack};
 ghost use Rattle.literals.specs.Reading.{lent};
