@@ -2,7 +2,7 @@
 use mathlib.Core.Path.{◌≡◌, refl, sym, ap, subst, ◌∙◌}
 use mathlib.Core.Logic.{◌↔◌}
 use mathlib.Core.Bool.{Bool, true, false, not, cond, ◌&&◌}
-use mathlib.Core.List.{List, [], ◌∷◌, ◌++◌, append_assoc, append_nil, map}
+use mathlib.Core.List.{List, [], ◌∷◌, ◌++◌, append_assoc, append-nil, map}
 use Prim.Native.Nat.{ℕ, zero, suc, ◌+◌, ◌*◌, ◌%◌, ◌≤◌, ◌<◌}
 use native.Mathlib.Nat.{zero-add}
 use native.Mathlib.Decide.{ℕ_discrete}
@@ -286,7 +286,7 @@ cores_back (suc left) (suc n) at bs b = go (λ m p cs k. cores_back left m p cs 
 
 -- a core's bytes, as those of a list of one
 alone : (c : Core) → encode_core c ≡ encode_all (exprs 1 (c, tt)) ++ []
-alone c = sym (append_nil (encode_core c ++ []) ∙ append_nil (encode_core c))
+alone c = sym (append-nil (encode_core c ++ []) ∙ append-nil (encode_core c))
 
 abbrev read_whole : Answer (Cores 1 × List ℕ) → Answer Core
 read_whole x = and_then x (λ r. whole_core r.0.0 r.1)
@@ -306,7 +306,7 @@ whole_only bs (ok r) o c e = go r.1 refl e
     go [] k d =
         let same : r.0.0 ≡ c = cc in (
           record { few = subst (λ x. size x ≤ max_core) same (omega (arith, o.few)); fits = subst (λ x. Fits (written x)) same o.fits.0 },
-          o.bytes ∙ ap (λ (l : List ℕ). (encode_core r.0.0 ++ []) ++ l) k ∙ append_nil (encode_core r.0.0 ++ []) ∙ append_nil (encode_core r.0.0) ∙ ap encode_core same,
+          o.bytes ∙ ap (λ (l : List ℕ). (encode_core r.0.0 ++ []) ++ l) k ∙ append-nil (encode_core r.0.0 ++ []) ∙ append-nil (encode_core r.0.0) ∙ ap encode_core same,
         )
     go (y ∷ ys) k d = let z : ◌≡◌ {A = ℕ} 0 1 = cc in absurd (omega arith)
 

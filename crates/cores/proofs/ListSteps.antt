@@ -1,6 +1,6 @@
 -- The second pass over core bytes, which lists the records of a core of good form.
 use mathlib.Core.Path.{◌≡◌, refl, sym, ap, subst, ◌∙◌}
-use mathlib.Core.List.{List, [], ◌∷◌, ◌++◌, append_assoc, append_nil}
+use mathlib.Core.List.{List, [], ◌∷◌, ◌++◌, append_assoc, append-nil}
 use Prim.Native.Nat.{ℕ, zero, suc, ◌+◌, ◌*◌, ◌≤◌, ◌<◌}
 use native.Mathlib.Nat.{zero-add}
 use native.Mathlib.Omega.{arith}
@@ -177,7 +177,7 @@ list_start {s} {list} each l = record {
   reads = whole_read (read_cores max_core 1 0 s) l.core l.is;
   done = [];
   count = refl;
-  split = sym (append_nil (words l.core));
+  split = sym (append-nil (words l.core));
   stored = refl;
 }
 
@@ -228,7 +228,7 @@ module _ {s list₀ list : List ℕ} {at to : ℕ} (l : Listing s list₀ list a
   pub list_end : length s ≤ at → Listed s list₀ list
   list_end h c e =
       let none = none_left l.left l.due l.place l.cores (ap (read_cores l.left l.due l.place) (sym (drop_of_length-le s h)) ∙ l.reads) in
-      let all : words l.core ≡ l.done = l.split ∙ ap (λ (ws : List ℕ). l.done ++ ws) none ∙ append_nil l.done in
+      let all : words l.core ≡ l.done = l.split ∙ ap (λ (ws : List ℕ). l.done ++ ws) none ∙ append-nil l.done in
       let same : l.core ≡ c = cc (l.is, e) in
       l.stored ∙ ap (sets list₀ 0) (sym all) ∙ sets_front (words l.core) list₀ (omega (arith, length_words l.core, l.room))
       ∙ ap (λ (d : Core). words d ++ drop (length (words d)) list₀) same

@@ -1,4 +1,6 @@
 // Cores read back from their bytes.
+#![tactic(auto)]
+
 pub mod records;
 
 ghost use Rattle.std.specs.Prelude.{◌≡◌, ◌≤◌};
@@ -13,13 +15,13 @@ use expr::operations::FieldCount;
 pub const MAX_CORE: usize = 65535;
 
 // How many records a core has, and how many fields it needs.
-#[derive(Drop)]
+#[derive(Clone, Copy)]
 pub struct Counts {
     pub count: usize,
     pub fields: u32,
 }
 
-#[derive(Drop)]
+#[derive(Clone, Copy)]
 pub enum CoreRead {
     Found(Counts),
     Refused(u8, usize),

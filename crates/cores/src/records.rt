@@ -6,7 +6,7 @@ ghost use Rattle.cores.specs.Results.{operator_bytes, atom_bytes, CoreRecordFoun
 use expr::records::HeadRead;
 
 // A record that was read, and its length in bytes.
-#[derive(Drop)]
+#[derive(Clone, Copy)]
 pub struct CoreRecord {
     pub kind: u8,
     pub field: u32,
@@ -14,7 +14,7 @@ pub struct CoreRecord {
     pub size: usize,
 }
 
-#[derive(Drop)]
+#[derive(Clone, Copy)]
 pub enum RecordRead {
     Found(CoreRecord),
     Refused(u8),

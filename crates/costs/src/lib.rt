@@ -1,4 +1,6 @@
 // What a pattern will cost: how many nodes the core of its match has, without making one.
+#![tactic(auto)]
+
 ghost use Rattle.std.specs.Prelude.{◌≡◌, cond, leb, length, take};
 ghost use Rattle.literals.specs.Bits.{unpack};
 ghost use Rattle.desugar.specs.Costs.{cost};
@@ -9,7 +11,7 @@ use expr::records::Head;
 use literals::Literal;
 
 // The node count, or the number of the refusal.
-#[derive(Drop)]
+#[derive(Clone, Copy)]
 pub enum Costed {
     Nodes(u64),
     Refused(u8),

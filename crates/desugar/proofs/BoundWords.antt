@@ -1,7 +1,7 @@
 -- The records of a bound's core, from its highest bit down, and how many they are.
 use mathlib.Core.Path.{◌∙◌, ◌≡◌, ap, refl, sym}
 use mathlib.Core.Bool.{Bool, beq, cond, false, not, true}
-use mathlib.Core.List.{List, [], ◌++◌, ◌∷◌, append_nil}
+use mathlib.Core.List.{List, [], ◌++◌, ◌∷◌, append-nil}
 use Prim.Native.Nat.{◌*◌, ◌+◌, ◌-◌, ◌<◌, ◌≤◌, suc, zero, ℕ}
 use native.Mathlib.Nat.{add-zero, sub-zero}
 use native.Mathlib.Numerals.{add-one}
@@ -187,7 +187,7 @@ module _ (d : Bool) (s : ℕ) (a : Bits) (w p : ℕ) (xs : List ℕ) {r : Progre
       second
       ∙ ap (λ (l : List ℕ). sets l (at + 3) own) first
       ∙ sets_append xs at (7 ∷ 0 ∷ 0 ∷ []) own
-      ∙ ap (λ (l : List ℕ). sets xs at (7 ∷ 0 ∷ 0 ∷ l)) (sym (append_nil own)) in
+      ∙ ap (λ (l : List ℕ). sets xs at (7 ∷ 0 ∷ 0 ∷ l)) (sym (append-nil own)) in
       record {
         written = rw e both;
         next = rw e (omega arith);

@@ -2,7 +2,7 @@
 use mathlib.Core.Path.{◌≡◌, refl, sym, ap, ap₂, ◌∙◌}
 use mathlib.Core.Logic.Iff
 use mathlib.Core.Logic.{◌⊎◌, inl, inr, ◌↔◌}
-use mathlib.Core.Bool.{Bool, true, false, cond, not, ◌&&◌, ◌||◌, beq, false≢true, true≢false, and_true, or-false}
+use mathlib.Core.Bool.{Bool, true, false, cond, not, ◌&&◌, ◌||◌, beq, false≢true, true≢false, and-true, or-false}
 use mathlib.Core.List.{List, [], ◌∷◌, ◌++◌}
 use Prim.Native.Nat.{ℕ, suc, ◌+◌, ◌*◌, ◌^◌, ◌≤◌, ◌<◌}
 use native.Mathlib.Decide.{dec_lt}
@@ -56,7 +56,7 @@ any_differences d s (b ∷ a) p =
     let own : List Core = high_first (suc s) a ++ leaf (Test s (not d)) ∷ [] in
     let e : passes (chain Intersect One own) p ≡ (agrees (suc s) a p && beq (p s) (not d)) =
     chain_all own p ∙ all_append (high_first (suc s) a) (leaf (Test s (not d)) ∷ []) p
-    ∙ ap₂ ◌&&◌ (all_high_first (suc s) a p) (and_true (beq (p s) (not d))) in
+    ∙ ap₂ ◌&&◌ (all_high_first (suc s) a p) (and-true (beq (p s) (not d))) in
     any_append (differences d (suc s) a) (cond (beq b d) (chain Intersect One own ∷ []) []) p
     ∙ ap₂ ◌||◌ (any_differences d (suc s) a p) (any_cond (beq b d) (chain Intersect One own) p ∙ ap (λ x. beq b d && x) e)
 

@@ -1,7 +1,7 @@
 -- The steps of `desugar` on bytes: the allowance and its work memory, the form, the walk, and the core's bytes.
 use mathlib.Core.Path.{◌≡◌, refl, sym, ap, subst, ◌∙◌}
 use mathlib.Core.Bool.{Bool, true, false, not}
-use mathlib.Core.List.{List, [], append_nil}
+use mathlib.Core.List.{List, [], append-nil}
 use Prim.Native.Nat.{ℕ, ◌+◌, ◌-◌, ◌*◌, ◌≤◌, ◌<◌}
 use native.Mathlib.Omega.{arith}
 use lib.Dec.{leb}
@@ -98,7 +98,7 @@ module _ {bs : List ℕ} {n : ℕ} {xs : List ℕ} (g : Granted bs n xs) (bytes 
         text =
             record {
               more = [];
-              bytes = e_is.1 ∙ sym (append_nil (encode e));
+              bytes = e_is.1 ∙ sym (append-nil (encode e));
               fits = e_is.0.fits;
               deep = e_is.0.deep;
               low = omega (arith, e_is.0.count);

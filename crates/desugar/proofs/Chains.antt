@@ -1,7 +1,7 @@
 -- The records of chains, and how many they are.
 use mathlib.Core.Path.{◌∙◌, ◌≡◌, ap, refl, sym}
 use mathlib.Core.Bool.{Bool, false}
-use mathlib.Core.List.{List, [], ◌++◌, ◌∷◌, append_assoc, append_nil}
+use mathlib.Core.List.{List, [], ◌++◌, ◌∷◌, append_assoc, append-nil}
 use Prim.Native.Nat.{◌*◌, ◌+◌, ◌-◌, ◌≤◌, suc, zero, ℕ}
 use native.Mathlib.Nat.{add-suc, add-zero, suc-add}
 use native.Mathlib.Numerals.{add-one}
@@ -32,7 +32,7 @@ linked_append o (c ∷ cs) ds =
 
 pub words_chain : (o : Op2) (a : Atom) (cs : List Core) (c : Core) → words (chain o a (cs ++ c ∷ [])) ≡ linked o cs ++ words c
 words_chain o a [] c = refl
-words_chain o a (b ∷ []) c = ap (λ (l : List ℕ). op2_kind o ∷ 0 ∷ 0 ∷ (l ++ words c)) (sym (append_nil (words b)))
+words_chain o a (b ∷ []) c = ap (λ (l : List ℕ). op2_kind o ∷ 0 ∷ 0 ∷ (l ++ words c)) (sym (append-nil (words b)))
 words_chain o a (b ∷ (d ∷ cs)) c =
     ap (λ (l : List ℕ). op2_kind o ∷ 0 ∷ 0 ∷ (words b ++ l)) (words_chain o a (d ∷ cs) c)
     ∙ ap (λ (l : List ℕ). op2_kind o ∷ 0 ∷ 0 ∷ l) (sym (append_assoc (words b) (linked o (d ∷ cs)) (words c)))
@@ -57,7 +57,7 @@ module _ (o : Op2) (cs : List Core) (c : Core) (l : List ℕ) (at : ℕ) {to : �
   link_more =
       ap (λ k. sets (sets l at (linked o cs)) k (op2_kind o ∷ 0 ∷ 0 ∷ words c)) e
       ∙ sets_append l at (linked o cs) (op2_kind o ∷ 0 ∷ 0 ∷ words c)
-      ∙ ap (sets l at) (ap (λ (w : List ℕ). linked o cs ++ op2_kind o ∷ 0 ∷ 0 ∷ w) (sym (append_nil (words c))) ∙ sym (linked_append o cs (c ∷ [])))
+      ∙ ap (sets l at) (ap (λ (w : List ℕ). linked o cs ++ op2_kind o ∷ 0 ∷ 0 ∷ w) (sym (append-nil (words c))) ∙ sym (linked_append o cs (c ∷ [])))
 
   -- the last operand
   pub link_last : (a : Atom) → sets (sets l at (linked o cs)) to (words c) ≡ sets l at (words (chain o a (cs ++ c ∷ [])))

@@ -1,7 +1,7 @@
 -- What is written for a core is what is written for its first record, and then for its operands in their modes.
 use mathlib.Core.Path.{◌≡◌, refl, sym, ap}
 use mathlib.Core.Bool.{Bool, true, false, cond, false≢true}
-use mathlib.Core.List.{List, [], ◌∷◌, ◌++◌, append_nil, append_assoc}
+use mathlib.Core.List.{List, [], ◌∷◌, ◌++◌, append-nil, append_assoc}
 use Prim.Native.Nat.{ℕ, suc}
 use lib.ListN.{length}
 use Rattle.expr.specs.Terms.{Atom, Op2, Core, leaf, one, two, Zero, One, Top, Dup, End, Assign, Test, Union, Intersect, Xor, Difference, Sequence, LtlUntil, op2_kind}
@@ -122,9 +122,9 @@ own m c = own_words (count_in m c) (code m) (core_kind c) (core_field c) (core_v
 
 -- a Sequence that is desugared again
 again_sequence : (l r : Bool) (a b : Core) → words (cond l (again b) (cond r (again a) (two Sequence (again a) (again b)))) ≡ own_words (count_of 2 11 (drop_of l r)) 2 11 0 0 ++ (emit (left_dropped l) a ++ (emit (right_dropped l r) b ++ []))
-again_sequence true r a b = sym (append_nil (words (again b)))
-again_sequence false true a b = sym (append_nil (words (again a)))
-again_sequence false false a b = rw append_nil
+again_sequence true r a b = sym (append-nil (words (again b)))
+again_sequence false true a b = sym (append-nil (words (again a)))
+again_sequence false false a b = rw append-nil
 
 flipped : (f : ℕ) (v : Bool) → emit negating (leaf (Test f v)) ≡ own negating (leaf (Test f v)) ++ []
 flipped f true = refl
@@ -156,23 +156,23 @@ leaf_open negating (Assign f v) t = absurd (false≢true t)
 
 op_open : (m : Mode) (o : Op2) (a b : Core) → is_test (two o a b) ≡ true → emit m (two o a b) ≡ own m (two o a b) ++ emit_all (tasks_of m (two o a b))
 op_open skipping o a b t = refl
-op_open keeping Union a b t = rw append_nil
-op_open keeping Intersect a b t = rw append_nil
-op_open keeping Xor a b t = rw append_nil
-op_open keeping Difference a b t = rw append_nil
-op_open keeping Sequence a b t = rw append_nil
+op_open keeping Union a b t = rw append-nil
+op_open keeping Intersect a b t = rw append-nil
+op_open keeping Xor a b t = rw append-nil
+op_open keeping Difference a b t = rw append-nil
+op_open keeping Sequence a b t = rw append-nil
 op_open keeping LtlUntil a b t = absurd (false≢true t)
-op_open redoing Union a b t = rw append_nil
-op_open redoing Intersect a b t = rw append_nil
-op_open redoing Xor a b t = rw append_nil
-op_open redoing Difference a b t = rw append_nil
+op_open redoing Union a b t = rw append-nil
+op_open redoing Intersect a b t = rw append-nil
+op_open redoing Xor a b t = rw append-nil
+op_open redoing Difference a b t = rw append-nil
 op_open redoing Sequence a b t = again_sequence (one_again a) (one_again b) a b
 op_open redoing LtlUntil a b t = absurd (false≢true t)
-op_open negating Union a b t = rw append_nil
-op_open negating Intersect a b t = rw append_nil
-op_open negating Xor a b t = rw append_nil
-op_open negating Difference a b t = rw append_nil
-op_open negating Sequence a b t = rw append_nil
+op_open negating Union a b t = rw append-nil
+op_open negating Intersect a b t = rw append-nil
+op_open negating Xor a b t = rw append-nil
+op_open negating Difference a b t = rw append-nil
+op_open negating Sequence a b t = rw append-nil
 op_open negating LtlUntil a b t = absurd (false≢true t)
 
 pub emit_open : (m : Mode) (c : Core) → is_test c ≡ true → emit m c ≡ own m c ++ emit_all (tasks_of m c)

@@ -1,7 +1,7 @@
 -- Laws of cores that are gone through record by record in memory.
 use mathlib.Core.Path.{◌≡◌, refl, sym, ap, ◌∙◌}
 use mathlib.Core.Bool.{Bool, true, false, ◌&&◌, and_assoc}
-use mathlib.Core.List.{List, [], ◌∷◌, ◌++◌, append_assoc, append_nil}
+use mathlib.Core.List.{List, [], ◌∷◌, ◌++◌, append_assoc, append-nil}
 use Prim.Native.Nat.{ℕ, zero, suc, ◌+◌, ◌*◌, ◌-◌, ◌≤◌, ◌<◌}
 use native.Mathlib.Nat.{not-suc-le-zero}
 use native.Mathlib.Omega.{arith}
@@ -103,7 +103,7 @@ pub record At (xs : List ℕ) (i j : ℕ) (c : Core) : Type 0 where
   pub spot : Spot xs i core others
 
 pub lies_at : {xs : List ℕ} {at n : ℕ} (c : Core) → Lies xs at n c → (j : ℕ) → j ≤ n → Holds xs (at + 3 * j) (words_all (forest_at j (c ∷ [])))
-lies_at c h j l = words_at j (c ∷ []) (omega (arith, h.count)) (moved h.holds refl (sym (append_nil (words c))))
+lies_at c h j l = words_at j (c ∷ []) (omega (arith, h.count)) (moved h.holds refl (sym (append-nil (words c))))
 
 pub at : {xs : List ℕ} {i n : ℕ} (c : Core) → Lies xs i n c → (j : ℕ) → j < n → At xs (i + 3 * j) j c
 at {xs} {i} {n} c h j l =

@@ -1,7 +1,7 @@
 -- What a limit changes: with enough of an allowance nothing, and with less the answer is 24 at the first draw beyond it.
 use mathlib.Core.Path.{◌≡◌, refl, sym, ap, subst, ◌∙◌}
 use mathlib.Core.Bool.{Bool, true, false, cond}
-use mathlib.Core.List.{List, [], ◌∷◌, ◌++◌, append_assoc, append_nil}
+use mathlib.Core.List.{List, [], ◌∷◌, ◌++◌, append_assoc, append-nil}
 use Prim.Native.Nat.{ℕ, ◌+◌, ◌-◌, ◌≤◌, ◌<◌}
 use native.Mathlib.Nat.{add-zero, sub-zero}
 use native.Mathlib.Decide.{dec_lt}
@@ -97,7 +97,7 @@ module _ {A B : Type 0} (m : Draws A) (h : A → Draws B) where
       stops r at ds (λ k. after_refusal (spent k) (s k)) (λ n p. after_refusal (left n) (e n p)) (λ n p. after_refusal (left n) (l n p))
 
 lift_costs : {A : Type 0} (x : Answer A) → Costs (lift x)
-lift_costs (ok a) = gives a [] (λ k. rw (append_nil k)) (λ n p. rw (sub-zero n)) (λ n p. absurd (omega arith))
+lift_costs (ok a) = gives a [] (λ k. rw (append-nil k)) (λ n p. rw (sub-zero n)) (λ n p. absurd (omega arith))
 lift_costs (refuse r at) = stops r at [] (λ k. refl) (λ n p. refl) (λ n p. absurd (omega arith))
 
 draw_costs : {A : Type 0} (d at : ℕ) (a : A) → Costs (drawing d at a)

@@ -1,7 +1,7 @@
 -- The records of a Wildcard's core, and how many they are.
 use mathlib.Core.Path.{◌∙◌, ◌≡◌, ap, refl, sym}
 use mathlib.Core.Bool.{Bool, cond, false, true}
-use mathlib.Core.List.{List, [], ◌++◌, ◌∷◌, append_nil}
+use mathlib.Core.List.{List, [], ◌++◌, ◌∷◌, append-nil}
 use Prim.Native.Nat.{◌*◌, ◌+◌, ◌-◌, ◌<◌, ◌≤◌, suc, zero, ℕ}
 use native.Mathlib.Nat.{add-zero, suc-add}
 use native.Mathlib.Numerals.{add-one}
@@ -93,7 +93,7 @@ module _ (s : ℕ) (a m : Bits) where
     where
       go : (b : Bool) → lows s a m (suc w) ≡ lows s a m w ++ cond b [] (leaf (Test (s + w) (get_or a w false)) ∷ [])
           → lows s a m w ≡ lows s a m (trim m w) → lows s a m (suc w) ≡ lows s a m (cond b (trim m w) (suc w))
-      go true e f = e ∙ append_nil (lows s a m w) ∙ f
+      go true e f = e ∙ append-nil (lows s a m w) ∙ f
       go false e f = refl
 
 trim_bound : (m : Bits) (w : ℕ) → trim m w ≤ w

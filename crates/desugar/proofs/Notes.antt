@@ -1,7 +1,7 @@
 -- The notes in memory: how a record's note is found from those of its operands, and a turn of the backward pass.
 use mathlib.Core.Path.{◌≡◌, refl, sym, ap, ◌∙◌, subst}
 use mathlib.Core.Bool.{Bool, true, false, cond, ◌&&◌, false≢true}
-use mathlib.Core.List.{List, [], ◌∷◌, ◌++◌, append_nil}
+use mathlib.Core.List.{List, [], ◌∷◌, ◌++◌, append-nil}
 use Prim.Native.Nat.{ℕ, zero, suc, ◌+◌, ◌*◌, ◌-◌, ◌/◌, ◌%◌, ◌^◌, ◌≤◌, ◌<◌}
 use native.Mathlib.Omega.{arith}
 use lib.Dec.{eqb}
@@ -191,4 +191,4 @@ back {xs} notes k t l h = subst (λ (m : ℕ). Holds xs (notes + m) (notes_all (
 pub whole : {xs : List ℕ} (notes k : ℕ) (t : Core) → k ≤ 0 → Holds xs (notes + k) (notes_all (forest_at k (t ∷ []))) → Holds xs notes (notes_of t)
 whole {xs} notes k t l h =
     let e : k ≡ 0 = omega arith in
-    moved (subst (λ (m : ℕ). Holds xs (notes + m) (notes_all (forest_at m (t ∷ [])))) e h) (omega arith) (append_nil (notes_of t))
+    moved (subst (λ (m : ℕ). Holds xs (notes + m) (notes_all (forest_at m (t ∷ [])))) e h) (omega arith) (append-nil (notes_of t))

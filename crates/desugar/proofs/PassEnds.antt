@@ -1,7 +1,7 @@
 -- The forward pass at its first record, and past its last.
 use mathlib.Core.Path.{◌≡◌, refl, sym, ap, ◌∙◌}
 use mathlib.Core.Bool.{Bool, true, ◌&&◌}
-use mathlib.Core.List.{List, [], ◌∷◌, ◌++◌, append_nil}
+use mathlib.Core.List.{List, [], ◌∷◌, ◌++◌, append-nil}
 use Prim.Native.Nat.{ℕ, ◌+◌, ◌-◌, ◌≤◌, ◌<◌}
 use native.Mathlib.Omega.{arith}
 use lib.ListN.{length, set, length-set}
@@ -21,15 +21,15 @@ begin {xs} {t} {at} {n} {notes} {modes} {out} lay h =
     record {
       plan = task negating t ∷ [];
       test = ap (λ (b : Bool). b && true) h.test;
-      records = moved (under (modes + n - 1) (0 ∷ []) (omega (arith, length_words t, h.lies.count, lay.notes_at, lay.modes_at)) h.lies.holds) (omega arith) (sym (append_nil (words t)));
-      noted = moved (under (modes + n - 1) (0 ∷ []) (omega (arith, notes_long t, h.lies.count, lay.modes_at)) h.noted) (omega arith) (sym (append_nil (notes_of t)));
+      records = moved (under (modes + n - 1) (0 ∷ []) (omega (arith, length_words t, h.lies.count, lay.notes_at, lay.modes_at)) h.lies.holds) (omega arith) (sym (append-nil (words t)));
+      noted = moved (under (modes + n - 1) (0 ∷ []) (omega (arith, notes_long t, h.lies.count, lay.modes_at)) h.noted) (omega arith) (sym (append-nil (notes_of t)));
       stack = stored xs (modes + n - 1) (0 ∷ []) (omega (arith, lay.out_at, lay.room));
       depth = omega arith;
       left = omega (arith, h.lies.count);
       done = [];
       written = none (set xs (modes + n - 1) 0) out (omega (arith, length-set xs (modes + n - 1) 0, lay.room));
       long = refl;
-      goal = append_nil (words (negate t));
+      goal = append-nil (words (negate t));
     }
 
 no_plan : (plan : List Task) → size_all (cores_of plan) ≡ 0 → emit_all plan ≡ []
@@ -38,7 +38,7 @@ no_plan (task m c ∷ ts) e = absurd (omega (arith, size_pos c))
 
 module _ {xs : List ℕ} {t : Core} {at n notes modes out j top made : ℕ} (limit : ℕ) (room : made ≤ limit) (l : n ≤ j) (r : Run xs t at n notes modes out j top made) where
   all_done : r.done ≡ words (negate t)
-  all_done = sym (append_nil r.done) ∙ ap (λ (e : List ℕ). r.done ++ e) (sym (no_plan r.plan (omega (arith, r.left)))) ∙ r.goal
+  all_done = sym (append-nil r.done) ∙ ap (λ (e : List ℕ). r.done ++ e) (sym (no_plan r.plan (omega (arith, r.left)))) ∙ r.goal
 
   made_is : made ≡ size (negate t)
   made_is = omega (arith, r.long, ap length all_done, length_words (negate t))

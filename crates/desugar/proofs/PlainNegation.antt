@@ -2,7 +2,7 @@
 use mathlib.Core.Path.{◌≡◌, refl, sym, ap, ◌∙◌}
 use mathlib.Core.Logic.{◌⊎◌, inl, inr}
 use mathlib.Core.Bool.{Bool, true, false, not, ◌&&◌, ◌||◌, and_assoc, false≢true}
-use mathlib.Core.List.{List, [], ◌∷◌, ◌++◌, append_assoc, append_nil}
+use mathlib.Core.List.{List, [], ◌∷◌, ◌++◌, append_assoc, append-nil}
 use Prim.Native.Nat.{ℕ, ◌+◌, ◌*◌, ◌≤◌, ◌<◌}
 use native.Mathlib.Omega.{arith}
 use borrow.Author.Tests.{le-leb}
@@ -111,12 +111,12 @@ pub begin : {xs : List ℕ} {t : Core} {at n to : ℕ} → to ≤ length xs → 
 begin {xs} {t} {at} {n} {to} room h e = record {
   plan = t ∷ [];
   plain = ap (λ (b : Bool). b && true) e;
-  records = moved h.holds (omega arith) (sym (append_nil (words t)));
+  records = moved h.holds (omega arith) (sym (append-nil (words t)));
   left = omega (arith, h.count);
   done = [];
   written = none xs to room;
   long = refl;
-  goal = append_nil (words (negate t));
+  goal = append-nil (words (negate t));
 }
 
 -- what the code writes for the record at index here, and the memory after it is written for record j
@@ -166,7 +166,7 @@ ended {xs} {t} {at} {n} {to} {j} l r = record { holds = moved r.written refl all
     none_left (c ∷ cs) e = absurd (omega (arith, size_pos c))
 
     all_done : r.done ≡ words (negate t)
-    all_done = sym (append_nil r.done) ∙ ap (λ (w : List ℕ). r.done ++ w) (sym (none_left r.plan (omega (arith, r.left)))) ∙ r.goal
+    all_done = sym (append-nil r.done) ∙ ap (λ (w : List ℕ). r.done ++ w) (sym (none_left r.plan (omega (arith, r.left)))) ∙ r.goal
 
 -- ## The two endings
 

@@ -2,7 +2,7 @@
 use mathlib.Core.Path.{◌≡◌, refl, sym, ap, ap₂, ◌∙◌}
 use mathlib.Core.Logic.Iff
 use mathlib.Core.Logic.{◌↔◌}
-use mathlib.Core.Bool.{Bool, true, false, ◌&&◌, ◌||◌, beq, true≢false, and_true, or-false, and_assoc, or_assoc, and_comm}
+use mathlib.Core.Bool.{Bool, true, false, ◌&&◌, ◌||◌, beq, true≢false, and-true, or-false, and_assoc, or_assoc, and_comm}
 use mathlib.Core.List.{List, [], ◌∷◌, ◌++◌, head-eq_of_cons-eq, tail-eq_of_cons-eq}
 use Prim.Native.Nat.{ℕ, zero, suc, ◌+◌, ◌-◌, ◌≤◌, ◌<◌}
 use native.Mathlib.Nat.{add-zero}
@@ -29,7 +29,7 @@ any_pass (c ∷ cs) p = passes c p || any_pass cs p
 
 pub chain_all : (cs : List Core) (p : Packet) → passes (chain Intersect One cs) p ≡ all_pass cs p
 chain_all [] p = refl
-chain_all (c ∷ []) p = sym (and_true (passes c p))
+chain_all (c ∷ []) p = sym (and-true (passes c p))
 chain_all (c ∷ (d ∷ cs)) p = ap (λ x. passes c p && x) (chain_all (d ∷ cs) p)
 
 pub chain_any : (cs : List Core) (p : Packet) → passes (chain Union Zero cs) p ≡ any_pass cs p
@@ -58,7 +58,7 @@ pub all_high_first : (s : ℕ) (a : Bits) (p : Packet) → all_pass (high_first 
 all_high_first s [] p = refl
 all_high_first s (b ∷ a) p =
     all_append (high_first (suc s) a) (leaf (Test s b) ∷ []) p
-    ∙ ap₂ ◌&&◌ (all_high_first (suc s) a p) (and_true (beq (p s) b))
+    ∙ ap₂ ◌&&◌ (all_high_first (suc s) a p) (and-true (beq (p s) b))
     ∙ and_comm (agrees (suc s) a p) (beq (p s) b)
 
 pub agrees_is : (s : ℕ) (a : Bits) (p : Packet) → (agrees s a p ≡ true) ↔ (field_bits p s (length a) ≡ a)

@@ -1,7 +1,7 @@
 -- The bytes of a core's records: how many, and that together they are the core's.
 use mathlib.Core.Path.{◌≡◌, refl, sym, ap, subst, ◌∙◌}
 use mathlib.Core.Bool.{Bool, true, false, not, cond}
-use mathlib.Core.List.{List, [], ◌∷◌, ◌++◌, append_assoc, append_nil}
+use mathlib.Core.List.{List, [], ◌∷◌, ◌++◌, append_assoc, append-nil}
 use Prim.Native.Nat.{ℕ, zero, suc, ◌+◌, ◌-◌, ◌*◌, ◌%◌, ◌≤◌, ◌<◌}
 use native.Mathlib.Nat.{add-zero, add-suc, zero-add}
 use native.Mathlib.Decide.{dec_lt, ℕ_discrete}
@@ -30,8 +30,8 @@ field_length false v = refl
 -- the fields that a core's record lacks are empty
 lacking : (a b c : List ℕ) → a ++ [] ++ b ++ [] ++ [] ++ c ++ [] ++ [] ≡ a ++ b ++ c
 lacking a b c =
-    append_nil (a ++ [] ++ b ++ [] ++ [] ++ c ++ []) ∙ append_nil (a ++ [] ++ b ++ [] ++ [] ++ c)
-    ∙ ap (λ (l : List ℕ). l ++ c) (append_nil (a ++ [] ++ b ++ []) ∙ append_nil (a ++ [] ++ b) ∙ ap (λ (l : List ℕ). l ++ b) (append_nil a))
+    append-nil (a ++ [] ++ b ++ [] ++ [] ++ c ++ []) ∙ append-nil (a ++ [] ++ b ++ [] ++ [] ++ c)
+    ∙ ap (λ (l : List ℕ). l ++ c) (append-nil (a ++ [] ++ b ++ []) ∙ append-nil (a ++ [] ++ b) ∙ ap (λ (l : List ℕ). l ++ b) (append-nil a))
 
 module _ (k f v : ℕ) where
   -- a record's bytes: its map, and the numbers that stand
@@ -61,7 +61,7 @@ records_short xs at (suc n) =
 
 -- some records, and then more
 pub records_more : (xs : List ℕ) (at a b : ℕ) → records_bytes xs at (a + b) ≡ records_bytes xs at a ++ records_bytes xs (at + 3 * a) b
-records_more xs at a zero = ap (records_bytes xs at) (add-zero a) ∙ sym (append_nil (records_bytes xs at a))
+records_more xs at a zero = ap (records_bytes xs at) (add-zero a) ∙ sym (append-nil (records_bytes xs at a))
 records_more xs at a (suc b) =
     ap (records_bytes xs at) (add-suc a b)
     ∙ (λ i. records_more xs at a b i ++ record_bytes xs (index i))

@@ -9,20 +9,20 @@ ghost use Rattle.desugar.specs.BindingWords.{AnyBound, Bound, Ends, FrameRoom, V
 use crate::memory::wide;
 
 // The innermost binding's frame ends at `last`; 0 where there is none.
-#[derive(Drop)]
+#[derive(Clone, Copy)]
 pub struct Bindings {
     pub last: usize,
 }
 
 // Where a variable's core lies, and how many records it has.
-#[derive(Drop)]
+#[derive(Clone, Copy)]
 pub enum Variable {
     At(usize, usize),
     Unbound,
 }
 
 // The range of an alias.
-#[derive(Drop)]
+#[derive(Clone, Copy)]
 pub enum Alias {
     Range(u32, u32),
     Unbound,

@@ -7,7 +7,7 @@ use crate::went::Walked;
 use expr::form::{Formed, MAX_DEPTH};
 
 // The core's length in bytes and the drawn total, or the refusal's number and place.
-#[derive(Drop)]
+#[derive(Clone, Copy)]
 pub enum Desugared {
     Done(usize, usize),
     Refused(u8, usize),

@@ -75,7 +75,7 @@ pub fn write_chain(
 
 // Where a bound's next records go, and where the links of its bits from `done` up stand: all terms begin with the same
 // links, so a term's first ones are copied from the term before it.
-#[derive(Drop)]
+#[derive(Clone, Copy)]
 pub struct Progress {
     pub to: usize,
     pub from: usize,

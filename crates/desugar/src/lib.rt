@@ -1,4 +1,6 @@
 // Desugaring: from a written policy to one-bit tests and assignments.
+#![tactic(auto)]
+
 mod between;
 pub mod bindings;
 pub mod bytes;
@@ -18,7 +20,7 @@ ghost use Rattle.std.specs.Prelude.{◌≡◌};
 ghost use Rattle.desugar.specs.Bindings.{compute_subrange, subrange_answer};
 
 // The part of an alias range that a range within it takes, in the fields of a packet.
-#[derive(Drop)]
+#[derive(Clone, Copy)]
 pub enum Subrange {
     Fields(u32, u32),
     Outside,

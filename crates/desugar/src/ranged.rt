@@ -23,7 +23,7 @@ use crate::went::{Walked, Went};
 use expr::records::Head;
 
 // The range of a use that keeps the rules, or the number of the first rule that is broken.
-#[derive(Drop)]
+#[derive(Clone, Copy)]
 pub enum Judged {
     Range(u32, u32),
     Refused(u8),

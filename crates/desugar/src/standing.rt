@@ -5,7 +5,7 @@ ghost use Rattle.desugar.specs.LeafWords.{Stands, stretch};
 ghost use Rattle.desugar.specs.Rules.{max_range_bits};
 
 // How many bits stand, and how many records their terms have, each with an operator.
-#[derive(Drop)]
+#[derive(Clone, Copy)]
 pub struct Standing {
     pub count: u64,
     pub size: u64,

@@ -14,7 +14,7 @@ ghost use Rattle.desugar.specs.NegationOutcome.{Layout, Negates};
 pub use tested::is_test;
 
 // The size of the negation, or why there is none.
-#[derive(Drop)]
+#[derive(Clone, Copy)]
 pub enum Outcome {
     Size(u32),
     TooLarge,

@@ -10,7 +10,7 @@ use crate::memory::{wide, write_record};
 use crate::test_negation::Outcome;
 
 // The index of the byte behind a term, the index of the record behind it, where its core lies and of how many records, and the allowance that is left.
-#[derive(Drop)]
+#[derive(Clone, Copy)]
 pub struct Went {
     pub used: usize,
     pub next: usize,
@@ -19,7 +19,7 @@ pub struct Went {
     pub left: usize,
 }
 
-#[derive(Drop)]
+#[derive(Clone, Copy)]
 pub enum Walked {
     Done(Went),
     Refused(u8, usize),

@@ -1,7 +1,7 @@
 -- Laws of `pasted`: numbers that are written over a list.
 use mathlib.Core.Path.{◌≡◌, refl, sym, ap, ◌∙◌}
 use mathlib.Core.Bool.{Bool, true, false}
-use mathlib.Core.List.{List, [], ◌++◌, append_assoc, append_nil}
+use mathlib.Core.List.{List, [], ◌++◌, append_assoc, append-nil}
 use Prim.Native.Nat.{ℕ, ◌+◌, ◌≤◌}
 use native.Mathlib.Nat.{add-zero}
 use native.Mathlib.Omega.{arith}
@@ -11,7 +11,7 @@ use Rattle.expr.specs.Replaced.{pasted}
 
 pub pasted_none : (b : Bool) (at : ℕ) (m : List ℕ) → m ≡ pasted b at [] m
 pasted_none false at m = refl
-pasted_none true at m = sym (ap (λ k. take at m ++ [] ++ drop k m) (add-zero at) ∙ ap (λ (l : List ℕ). l ++ drop at m) (append_nil (take at m)) ∙ take-append-drop at m)
+pasted_none true at m = sym (ap (λ k. take at m ++ [] ++ drop k m) (add-zero at) ∙ ap (λ (l : List ℕ). l ++ drop at m) (append-nil (take at m)) ∙ take-append-drop at m)
 
 -- what is written behind what was written
 pub pasted_more : (b : Bool) (at : ℕ) (w v m : List ℕ) → (b ≡ true → at + (length w + length v) ≤ length m) → pasted b (at + length w) v (pasted b at w m) ≡ pasted b at (w ++ v) m

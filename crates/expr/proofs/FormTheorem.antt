@@ -2,7 +2,7 @@
 use mathlib.Core.Path.{◌≡◌, refl, sym, ap, subst, ◌∙◌}
 use mathlib.Core.Logic.{◌↔◌}
 use mathlib.Core.Bool.{Bool, true, false, cond}
-use mathlib.Core.List.{List, [], ◌∷◌, ◌++◌, append_nil}
+use mathlib.Core.List.{List, [], ◌∷◌, ◌++◌, append-nil}
 use Prim.Native.Nat.{ℕ, zero, suc, ◌≤◌}
 use native.Mathlib.Omega.{arith}
 use lib.ListN.{length}
@@ -24,7 +24,7 @@ use Rattle.expr.proofs.TermForm.{parse_forward, IfOk, ok_then, Back, parse_back}
 pub decode_encode : (e : Expr) → Within e → decode (encode e) ≡ ok e
 decode_encode e w =
     ap (λ (x : Answer Parsed). and_then x (λ r. whole_term r r.rest))
-    (ap (parse max_depth 0) (sym (append_nil (encode e))) ∙ parse_forward max_depth 0 e [] w.fits w.deep (omega (arith, w.count)))
+    (ap (parse max_depth 0) (sym (append-nil (encode e))) ∙ parse_forward max_depth 0 e [] w.fits w.deep (omega (arith, w.count)))
 
 abbrev Decoded : List ℕ → Expr → Type 0
 Decoded bs e = Within e × (bs ≡ encode e)
@@ -32,7 +32,7 @@ Decoded bs e = Within e × (bs ≡ encode e)
 whole_back : (bs : List ℕ) (r : Parsed) (rest : List ℕ) → r.rest ≡ rest → Back max_depth 0 bs r → IfOk (Decoded bs) (whole_term r rest)
 whole_back bs r [] e b = (
   record { count = omega (arith, b.next, b.count); deep = b.deep; fits = b.fits },
-  b.bytes ∙ ap (λ (cs : List ℕ). encode r.term ++ cs) e ∙ append_nil (encode r.term),
+  b.bytes ∙ ap (λ (cs : List ℕ). encode r.term ++ cs) e ∙ append-nil (encode r.term),
 )
 whole_back bs r (c ∷ cs) e b = tt
 

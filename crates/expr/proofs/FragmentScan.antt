@@ -1,6 +1,6 @@
 -- The scan for the test fragment: a term is in it if each record's kind may stand there.
 use mathlib.Core.Path.{◌≡◌, refl, sym, ap, ◌∙◌}
-use mathlib.Core.Bool.{Bool, true, false, ◌&&◌, and_true, and_assoc}
+use mathlib.Core.Bool.{Bool, true, false, ◌&&◌, and-true, and_assoc}
 use mathlib.Core.List.{List, [], ◌∷◌, ◌++◌}
 use Prim.Native.Nat.{ℕ, ◌+◌, ◌≤◌}
 use lib.ListN.{length}
@@ -61,7 +61,7 @@ fragment_start {s} each t =
     record {
       terms = t.0 ∷ [];
       left = left_start s t.0 (bytes_each s each) t.1;
-      answer = λ e d. let same : e ≡ t.0 = cc in ap is_test_fragment same ∙ sym (and_true (is_test_fragment t.0));
+      answer = λ e d. let same : e ≡ t.0 = cc in ap is_test_fragment same ∙ sym (and-true (is_test_fragment t.0));
     }
 
 module _ {s : List ℕ} {at : ℕ} (l : FragmentLeft s at) where

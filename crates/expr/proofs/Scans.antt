@@ -1,6 +1,6 @@
 -- Scans over the records of a term: what is left of it is a list of terms, and reading a record puts a term's children in its place.
 use mathlib.Core.Path.{◌≡◌, refl, sym, ap, subst, ◌∙◌}
-use mathlib.Core.List.{List, [], ◌∷◌, ◌++◌, append_assoc, append_nil}
+use mathlib.Core.List.{List, [], ◌∷◌, ◌++◌, append_assoc, append-nil}
 use Prim.Native.Nat.{ℕ, ◌+◌, ◌≤◌, ◌<◌}
 use native.Mathlib.Omega.{arith}
 use lib.ListN.{length, drop, length-drop}
@@ -87,7 +87,7 @@ pub record Left (s : List ℕ) (at : ℕ) (es : List Expr) : Type 0 where
 pub left_start : (s : List ℕ) (e : Expr) → Bytes s → decode s ≡ ok e → Left s 0 (e ∷ [])
 left_start s e b d =
     let known = decode_only s e b d in
-    record { inside = omega arith; bytes = known.1 ∙ sym (append_nil (encode e)); fits = (known.0.fits, tt) }
+    record { inside = omega arith; bytes = known.1 ∙ sym (append-nil (encode e)); fits = (known.0.fits, tt) }
 
 -- at the end no term is left
 pub left_none : {s : List ℕ} {at : ℕ} (es : List Expr) → Left s at es → length s ≤ at → es ≡ []

@@ -1,7 +1,7 @@
 -- The steps of `substitute`: both forms, the measures of the result, and the result.
 use mathlib.Core.Path.{◌≡◌, refl, sym, ap, ◌∙◌}
 use mathlib.Core.Bool.{Bool, true, false, ◌&&◌, false≢true}
-use mathlib.Core.List.{List, [], ◌++◌, append_nil}
+use mathlib.Core.List.{List, [], ◌++◌, append-nil}
 use Prim.Native.Nat.{ℕ, ◌+◌, ◌^◌, ◌≤◌, ◌<◌}
 use native.Mathlib.Nat.{zero-add}
 use native.Mathlib.Omega.{arith}
@@ -70,7 +70,7 @@ module _ {s : List ℕ} (e by : Expr) (whole : Within e × (s ≡ encode e)) (ot
         term = e;
         by = by;
         more = [];
-        bytes = whole.1 ∙ sym (append_nil (encode e));
+        bytes = whole.1 ∙ sym (append-nil (encode e));
         fits = whole.0.fits;
         deep = whole.0.deep;
         stands = stands;

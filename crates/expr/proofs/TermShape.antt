@@ -1,7 +1,7 @@
 -- A term by its own record and its children.
 use mathlib.Core.Path.{◌≡◌, refl, sym, ◌∙◌}
 use mathlib.Core.Logic.{◌↔◌}
-use mathlib.Core.List.{List, [], ◌∷◌, ◌++◌, append_assoc, append_nil}
+use mathlib.Core.List.{List, [], ◌∷◌, ◌++◌, append_assoc, append-nil}
 use Prim.Native.Nat.{ℕ, ◌+◌}
 use native.Mathlib.Omega.{arith}
 use Rattle.expr.specs.Terms.{Expr, Plain, Unary, Binary, TestNegation, IfThenElse, Let, LetBitRange, Var, Ranged, op1_kind, op2_kind, records, depth}
@@ -32,20 +32,20 @@ kids (Var x) = []
 kids (Ranged w u) = []
 
 behind : (w a b : List ℕ) → w ++ a ++ b ≡ w ++ (a ++ (b ++ []))
-behind w a b = simp (append_assoc, append_nil)
+behind w a b = simp (append_assoc, append-nil)
 
 pub encode_is : (e : Expr) → encode e ≡ write_record (own e) ++ encode_all (kids e)
-encode_is (Plain a) = sym (append_nil (write_record (atom_record a)))
-encode_is (Unary o e) = simp append_nil
+encode_is (Plain a) = sym (append-nil (write_record (atom_record a)))
+encode_is (Unary o e) = simp append-nil
 encode_is (Binary o a b) = behind (write_record (plain_record (op2_kind o))) (encode a) (encode b)
-encode_is (TestNegation e) = simp append_nil
+encode_is (TestNegation e) = simp append-nil
 encode_is (IfThenElse c t e) =
     behind (write_record (plain_record 17) ++ encode c) (encode t) (encode e)
     ∙ append_assoc (write_record (plain_record 17)) (encode c) (encode t ++ (encode e ++ []))
 encode_is (Let x d b) = behind (write_record (name_record 18 x 0 0)) (encode d) (encode b)
-encode_is (LetBitRange x s e b) = simp append_nil
-encode_is (Var x) = sym (append_nil (write_record (name_record 20 x 0 0)))
-encode_is (Ranged w u) = sym (append_nil (write_record (ranged_record w u)))
+encode_is (LetBitRange x s e b) = simp append-nil
+encode_is (Var x) = sym (append-nil (write_record (name_record 20 x 0 0)))
+encode_is (Ranged w u) = sym (append-nil (write_record (ranged_record w u)))
 
 pub records_is : (e : Expr) → records e ≡ 1 + records_all (kids e)
 records_is (Plain a) = refl

@@ -11,13 +11,13 @@ pub const MAX_RECORDS: usize = 4096;
 pub const MAX_DEPTH: usize = 256;
 
 // How many bytes are used up to the end of a tree, and the index of the record behind it.
-#[derive(Drop)]
+#[derive(Clone, Copy)]
 pub struct Taken {
     pub used: usize,
     pub next: usize,
 }
 
-#[derive(Drop)]
+#[derive(Clone, Copy)]
 pub enum Formed {
     Good(Taken),
     Refused(u8, usize),

@@ -6,20 +6,20 @@ ghost use Rattle.expr.specs.Results.{Term, FragmentOf, FieldsOf, fragment_kind, 
 use crate::form::Formed;
 use crate::records::HeadRead;
 
-#[derive(Drop)]
+#[derive(Clone, Copy)]
 pub enum Fragment {
     Is(bool),
     Refused(u8, usize),
 }
 
-#[derive(Drop)]
+#[derive(Clone, Copy)]
 pub enum FieldCount {
     Count(u32),
     Refused(u8, usize),
 }
 
 // What a record gives to the field count by itself, or that field + 1 is beyond 32 bits.
-#[derive(Drop)]
+#[derive(Clone, Copy)]
 pub enum OwnFields {
     Fields(u32),
     Over,

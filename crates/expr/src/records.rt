@@ -7,7 +7,7 @@ ghost use Rattle.expr.specs.Results.{NumberFound, LiteralField, kind_map, none_f
 use literals::{Literal, LiteralRead};
 
 // A record that was read, and its length in bytes.
-#[derive(Drop)]
+#[derive(Clone, Copy)]
 pub struct Head {
     pub kind: u8,
     pub name: u32,
@@ -20,41 +20,41 @@ pub struct Head {
     pub size: usize,
 }
 
-#[derive(Drop)]
+#[derive(Clone, Copy)]
 pub enum HeadRead {
     Found(Head),
     Refused(u8),
 }
 
 // A number that was read, and the byte behind it.
-#[derive(Drop)]
+#[derive(Clone, Copy)]
 pub struct Number {
     pub value: u32,
     pub next: usize,
 }
 
-#[derive(Drop)]
+#[derive(Clone, Copy)]
 pub enum NumberRead {
     Value(Number),
     Refused(u8),
 }
 
 // The map byte and the kind that were read, and the byte behind them.
-#[derive(Drop)]
+#[derive(Clone, Copy)]
 pub struct Kind {
     pub map: u8,
     pub kind: u8,
     pub next: usize,
 }
 
-#[derive(Drop)]
+#[derive(Clone, Copy)]
 pub enum KindRead {
     Found(Kind),
     Refused(u8),
 }
 
 // The name, start and end that were read, and the byte behind them.
-#[derive(Drop)]
+#[derive(Clone, Copy)]
 pub struct Range {
     pub name: u32,
     pub start: u32,
@@ -62,21 +62,21 @@ pub struct Range {
     pub next: usize,
 }
 
-#[derive(Drop)]
+#[derive(Clone, Copy)]
 pub enum RangeRead {
     Found(Range),
     Refused(u8),
 }
 
 // The pattern and the number that were read, and the byte behind them.
-#[derive(Drop)]
+#[derive(Clone, Copy)]
 pub struct Chosen {
     pub pattern: u32,
     pub number: u32,
     pub next: usize,
 }
 
-#[derive(Drop)]
+#[derive(Clone, Copy)]
 pub enum PatternRead {
     Found(Chosen),
     Refused(u8),

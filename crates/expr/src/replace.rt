@@ -6,14 +6,14 @@ ghost use Rattle.expr.specs.Replaced.{SubstitutedAs, Decodes, named, swap, swap_
 use crate::form::{Formed, MAX_DEPTH, MAX_RECORDS};
 use crate::records::HeadRead;
 
-#[derive(Drop)]
+#[derive(Clone, Copy)]
 pub enum Substituted {
     Length(usize),
     Refused(u8, usize),
 }
 
 // What is replaced: the variable, the records and levels of what is put for it, and whether the result is written or only measured.
-#[derive(Drop)]
+#[derive(Clone, Copy)]
 pub struct Job {
     pub name: u16,
     pub records: usize,
@@ -22,7 +22,7 @@ pub struct Job {
 }
 
 // How many bytes of the term are used, where the result goes on, and its records and levels.
-#[derive(Drop)]
+#[derive(Clone, Copy)]
 pub struct Went {
     pub used: usize,
     pub to: usize,

@@ -11,21 +11,21 @@ ghost use Rattle.literals.specs.declared.Order.TheVariants.{Below, Above};
 pub const MAX_LITERAL: usize = 192;
 
 // A literal that was read: the byte at which its bits begin, how many they are, and the byte behind it.
-#[derive(Drop)]
+#[derive(Clone, Copy)]
 pub struct Literal {
     pub at: usize,
     pub bits: usize,
     pub next: usize,
 }
 
-#[derive(Drop)]
+#[derive(Clone, Copy)]
 pub enum LiteralRead {
     Found(Literal),
     Refused(u8),
 }
 
 // How one number stands to another.
-#[derive(Drop)]
+#[derive(Clone, Copy)]
 pub enum Order {
     Below,
     Equal,
@@ -33,7 +33,7 @@ pub enum Order {
 }
 
 // How one bound stands to another, and how many of the field's bits were looked at for that.
-#[derive(Drop)]
+#[derive(Clone, Copy)]
 pub struct Compared {
     pub order: Order,
     pub looked: usize,

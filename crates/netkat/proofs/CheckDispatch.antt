@@ -1,7 +1,7 @@
 -- The walk of src/check.rt over one term: its record says what it is, and what is told of its children is told of the term.
 use mathlib.Core.Path.{◌≡◌, sym, ap, subst, ◌∙◌}
 use mathlib.Core.Bool.{Bool}
-use mathlib.Core.List.{List, [], ◌∷◌, append_nil}
+use mathlib.Core.List.{List, [], ◌∷◌, append-nil}
 use Prim.Native.Nat.{ℕ, ◌+◌, ◌-◌, ◌*◌, ◌≤◌}
 use native.Mathlib.Omega.{arith}
 use lib.ListN.{length}
@@ -126,7 +126,7 @@ module _ {s : List ℕ} {levels : ℕ} {xs : List ℕ} (q : CheckRoom s levels x
         text =
             record {
               more = [];
-              bytes = d.1 ∙ sym (append_nil (encode q.term));
+              bytes = d.1 ∙ sym (append-nil (encode q.term));
               fits = d.0.fits;
               deep = q.deep;
               low = omega (arith, d.0.count);

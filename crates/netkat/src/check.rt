@@ -29,21 +29,21 @@ const SHORT: usize = 32;
 const SHORT_WORK: usize = 256;
 
 // Whether a term is a test, or the first rule that fails and its place.
-#[derive(Drop)]
+#[derive(Clone, Copy)]
 pub enum Checked {
     Test(bool),
     Refused(u8, usize),
 }
 
 // The index of the byte behind a term, the index of the record behind it, and whether it is a test.
-#[derive(Drop)]
+#[derive(Clone, Copy)]
 pub struct Sorted {
     pub used: usize,
     pub next: usize,
     pub test: bool,
 }
 
-#[derive(Drop)]
+#[derive(Clone, Copy)]
 pub enum Walked {
     Done(Sorted),
     Refused(u8, usize),

@@ -1,4 +1,6 @@
 // What the solver's Rust process calls.
+#![tactic(auto)]
+
 mod answers;
 mod check;
 pub mod cost;
@@ -15,7 +17,7 @@ use desugar::Subrange;
 // What a call answers. Success has number 0, place 0 and the operation's values, 0 where it has none; a refusal has its number and
 // place, and no values.
 #[repr(C)]
-#[derive(Drop)]
+#[derive(Clone, Copy)]
 pub struct Answer {
     pub number: u32,
     pub place: u32,

@@ -13,7 +13,7 @@ use cores::records::CoreRecord;
 const SECOND: u32 = 16;
 
 // How far a run is: how many operators are open, the last mask, and how many of the next cores need not be looked at.
-#[derive(Drop)]
+#[derive(Clone, Copy)]
 pub struct Progress {
     pub depth: usize,
     pub mask: u64,

@@ -1,4 +1,6 @@
 // Up to sixty-four packets through a core that is a test, in one pass over its records.
+#![tactic(auto)]
+
 mod frames;
 mod masks;
 mod skim;
@@ -16,7 +18,7 @@ use expr::operations::FieldCount;
 pub const MAX_PACKETS: usize = 64;
 
 // A core that was read: its records, its fields, whether it is a test, and the packets that pass it.
-#[derive(Drop)]
+#[derive(Clone, Copy)]
 struct Pass {
     count: usize,
     fields: u32,
@@ -24,14 +26,14 @@ struct Pass {
     mask: u64,
 }
 
-#[derive(Drop)]
+#[derive(Clone, Copy)]
 enum PassRead {
     Found(Pass),
     Refused(u8, usize),
 }
 
 // Bit i says whether packet i passes.
-#[derive(Drop)]
+#[derive(Clone, Copy)]
 pub enum Ran {
     Passing(u64),
     Refused(u8, usize),

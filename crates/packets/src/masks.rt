@@ -11,7 +11,7 @@ use cores::records::CoreRecord;
 const SLOTS: u32 = 256;
 
 // What is asked of the packets again and again: where the last one ends, and the mask of all.
-#[derive(Drop)]
+#[derive(Clone, Copy)]
 pub struct Capture {
     pub end: usize,
     pub all: u64,

@@ -9,7 +9,7 @@ use cores::{MAX_CORE, records};
 use expr::operations::FieldCount;
 
 // The byte and the record that are next, how many cores are due, the field count so far, and how far the run is.
-#[derive(Drop)]
+#[derive(Clone, Copy)]
 pub struct Spot {
     pub at: usize,
     pub place: usize,
@@ -19,7 +19,7 @@ pub struct Spot {
 }
 
 // The byte and the record that are next, how many cores are still to be skipped, and the field count so far.
-#[derive(Drop)]
+#[derive(Clone, Copy)]
 pub struct Skimmed {
     pub at: usize,
     pub place: usize,
@@ -28,14 +28,14 @@ pub struct Skimmed {
 }
 
 // The bytes of an operator and a Test, and the fields that the Test needs.
-#[derive(Drop)]
+#[derive(Clone, Copy)]
 struct Pair {
     size: usize,
     need: u32,
 }
 
 // The byte and the record behind pairs, and the field count.
-#[derive(Drop)]
+#[derive(Clone, Copy)]
 struct Pairs {
     at: usize,
     place: usize,

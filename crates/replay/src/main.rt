@@ -26,7 +26,7 @@ const READ: u8 = 9;
 const USED: u32 = 0xa5a5_a5a5;
 
 // The head of a case, its numbers read.
-#[derive(Drop)]
+#[derive(Clone, Copy)]
 struct Case {
     operation: u8,
     ok: bool,
@@ -41,13 +41,13 @@ struct Case {
 }
 
 // A case that was run: where the next one begins, and whether it agrees.
-#[derive(Drop)]
+#[derive(Clone, Copy)]
 struct Ran {
     next: usize,
     ok: bool,
 }
 
-#[derive(Drop)]
+#[derive(Clone, Copy)]
 struct Tally {
     agreed: u64,
     cases: u64,

@@ -12,7 +12,7 @@ use crate::Rule;
 const MAX_RULES: usize = 256;
 
 // A lookup: the number of its refusal, and how many rules are looked at, none if it is refused.
-#[derive(Drop)]
+#[derive(Clone, Copy)]
 pub struct Asked {
     pub number: u8,
     pub count: usize,

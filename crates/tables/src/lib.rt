@@ -8,7 +8,7 @@ pub mod patterns;
 
 // A rule: the values from its low to its high one, both included, each as its lower and its higher 64 bits.
 #[repr(C)]
-#[derive(Drop)]
+#[derive(Clone, Copy)]
 pub struct Rule {
     pub low_lo: u64,
     pub low_hi: u64,

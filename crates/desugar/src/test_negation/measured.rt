@@ -17,7 +17,7 @@ pub(crate) fn right_note(work: &[u32], note: usize) -> u32
 }
 
 // Of the core that was noted last: how many records it has, and 1 if it is One when desugared again.
-#[derive(Drop)]
+#[derive(Clone, Copy)]
 pub struct Last {
     pub size: u32,
     pub one: u32,

@@ -6,14 +6,14 @@ ghost use Rattle.desugar.specs.NegationOutcome.{Layout};
 ghost use Rattle.desugar.specs.NegationRun.{Run, Stepped, Noted, Result};
 
 // The size of the negation, if that is within the limit.
-#[derive(Drop)]
+#[derive(Clone, Copy)]
 pub enum Negated {
     Size(u32),
     TooLarge,
 }
 
 // Where the core of n records, the notes, the modes and the result of at most `limit` records lie.
-#[derive(Drop)]
+#[derive(Clone, Copy)]
 pub struct Places {
     pub at: usize,
     pub n: usize,
@@ -24,7 +24,7 @@ pub struct Places {
 }
 
 // The top of the stack, and how many records are written; above the limit none of this turn's are.
-#[derive(Drop)]
+#[derive(Clone, Copy)]
 pub struct Next {
     pub top: usize,
     pub made: usize,
