@@ -1,0 +1,26 @@
+use borrow.Author.Rules.{rules}
+use native.Mathlib.Omega.{arith}
+use mathlib.Core.Path.{sym}
+use mathlib.Core.List.{List}
+use Prim.Native.Nat.{ℕ, ◌+◌, ◌-◌}
+use lib.ListN.{drop}
+use Rattle.expr.specs.Results.{tree_from, trees_from, TreeFormed, TreesAsked}
+use Rattle.expr.specs.declared.records.Head.{Head}
+use Rattle.expr.specs.declared.form.Formed.{Formed}
+use Rattle.expr.proofs.Arities.{arity_small}
+use Rattle.expr.proofs.FormSteps.{tree_over, tree_deep, Looked, record_refused, record_inside, record_good}
+use Prim.Native.Nat.{ℕ}
+use Rattle.expr.proofs.FormSteps.{Due, all_due, none_due, due_refused, due_good}
+use Rattle.expr.proofs.form.+tree_trees.Goals as goal
+
+pub tree-returns : goal.tree-returns
+tree-returns t c = (record_good (record { deep = c.if-left-eq0.false; low = c.if-place-ge-MAX_RECORDS.false; start = c.requires; found = c.read_record.ensures }) c.in-Found.is c.arity-count.ensures c.trees.ensures)
+
+pub trees-returns-in-Refused : goal.trees-returns-in-Refused
+trees-returns-in-Refused t c = due_refused c.loop-due.invariant c.loop-due-test.true c.tree.ensures c.in-Refused.is
+
+pub trees-loop-due-preserved : goal.trees-loop-due-preserved
+trees-loop-due-preserved t c = due_good c.loop-due.invariant c.loop-due-test.true c.tree.ensures c.in-Good.is
+
+pub trees-returns : goal.trees-returns
+trees-returns t c = none_due c.loop-due.invariant c.loop-due-test.false

@@ -1,0 +1,50 @@
+-- `expr::read_record` meets its contract: each return is a chain of the stages that were read before it.
+use mathlib.Core.Path.{◌≡◌, refl, sym, subst, ◌∙◌}
+use mathlib.Core.List.{List}
+use Prim.Native.Nat.{ℕ}
+use native.Mathlib.Omega.{arith}
+use borrow.Author.Rules.{rules}
+use lib.ListN.{drop}
+use Rattle.literals.specs.Bits.{bit_at}
+use Rattle.literals.specs.Reading.{Read}
+use Rattle.literals.specs.declared.LiteralRead.TheVariants as literal
+use Rattle.expr.specs.Records.{Record, read_record}
+use Rattle.expr.specs.Results.{KindFound, RangeFound, PatternFound, LiteralField}
+use Rattle.expr.specs.declared.records.Kind.{Kind}
+use Rattle.expr.specs.declared.records.KindRead.TheVariants as kind
+use Rattle.expr.specs.declared.records.Range.{Range}
+use Rattle.expr.specs.declared.records.RangeRead.TheVariants as range
+use Rattle.expr.specs.declared.records.Chosen.{Chosen}
+use Rattle.expr.specs.declared.records.PatternRead.TheVariants as chosen
+use Rattle.expr.proofs.Stages.{after_kind, after_range, after_pattern, record_stages}
+use Rattle.expr.proofs.BareRecord.{bare_found}
+use Rattle.expr.proofs.Steps.{faulted, onward}
+use Rattle.expr.proofs.records.read_record.Goals as goal
+
+pub returns-in-Refused-read_pattern : goal.returns-in-Refused-read_pattern
+returns-in-Refused-read_pattern c =
+    let none = subst (PatternFound _ _ _ _) c.in-Refused-read_pattern.is c.read_pattern.ensures in
+    record { answer = (onward _ (subst (KindFound _) c.in-Found.is c.read_kind.ensures).answer (onward _ (subst (RangeFound _ _ _) c.in-Found-read_range.is c.read_range.ensures).answer (faulted _ none.answer)) ∙ sym (record_stages c.args.s.now)); inside = none.inside }
+
+pub returns-in-Refused-literal_field : goal.returns-in-Refused-literal_field
+returns-in-Refused-literal_field c =
+    let none = subst (LiteralField _ _ _) c.in-Refused-literal_field.is c.literal_field.ensures in
+    record { answer = (onward _ (subst (KindFound _) c.in-Found.is c.read_kind.ensures).answer (onward _ (subst (RangeFound _ _ _) c.in-Found-read_range.is c.read_range.ensures).answer (onward _ (subst (PatternFound _ _ _ _) c.in-Found-read_pattern.is c.read_pattern.ensures).answer (faulted _ none.answer))) ∙ sym (record_stages c.args.s.now)); inside = none.inside }
+
+pub returns-in-Refused-literal_field-2 : goal.returns-in-Refused-literal_field-2
+returns-in-Refused-literal_field-2 c =
+    let none = subst (LiteralField _ _ _) c.in-Refused-literal_field-2.is c.literal_field-2.ensures in
+    record { answer = (onward _ (subst (KindFound _) c.in-Found.is c.read_kind.ensures).answer (onward _ (subst (RangeFound _ _ _) c.in-Found-read_range.is c.read_range.ensures).answer (onward _ (subst (PatternFound _ _ _ _) c.in-Found-read_pattern.is c.read_pattern.ensures).answer (onward _ (subst (LiteralField _ _ _) c.in-Found-literal_field.is c.literal_field.ensures).answer (faulted _ none.answer)))) ∙ sym (record_stages c.args.s.now)); inside = none.inside }
+
+pub returns : goal.returns
+returns c =
+    let last = subst (LiteralField _ _ _) c.in-Found-literal_field-2.is c.literal_field-2.ensures in
+    let i1 = (subst (KindFound _) c.in-Found.is c.read_kind.ensures).inside in
+    let i2 = (subst (RangeFound _ _ _) c.in-Found-read_range.is c.read_range.ensures).inside in
+    let i3 = (subst (PatternFound _ _ _ _) c.in-Found-read_pattern.is c.read_pattern.ensures).inside in
+    let i4 = (subst (LiteralField _ _ _) c.in-Found-literal_field.is c.literal_field.ensures).inside in
+    let i5 = last.inside in
+    record {
+      answer = (onward _ (subst (KindFound _) c.in-Found.is c.read_kind.ensures).answer (onward _ (subst (RangeFound _ _ _) c.in-Found-read_range.is c.read_range.ensures).answer (onward _ (subst (PatternFound _ _ _ _) c.in-Found-read_pattern.is c.read_pattern.ensures).answer (onward _ (subst (LiteralField _ _ _) c.in-Found-literal_field.is c.literal_field.ensures).answer (onward _ last.answer refl)))) ∙ sym (record_stages c.args.s.now));
+      inside = (omega arith, i5.2, omega arith, omega arith, i4.3, i5.3);
+    }

@@ -1,0 +1,69 @@
+use borrow.Author.Rules.{rules}
+use native.Mathlib.Omega.{arith}
+use mathlib.Core.Path.{◌≡◌, sym}
+use mathlib.Core.Bool.{Bool, false}
+use Prim.Native.Nat.{ℕ}
+use Rattle.expr.specs.Replaced.{Ready}
+use Rattle.expr.proofs.Arities.{arity_small}
+use Rattle.expr.proofs.Replacing.{free_var, free_first, free_others}
+use Rattle.expr.proofs.HeadOf.{Headed, not_refused, headed}
+use Rattle.expr.proofs.SwapSteps.{some_left, is_var, is_first, is_others, var_room, var_small, var_done, own_long, own_room, own_small, all_ready, all_done}
+use mathlib.Core.Path.{◌≡◌}
+use Rattle.expr.proofs.SwapRest.{first_ready, used_inside, count_small, level_small, Due, all_due, none_due, due_again}
+use Rattle.expr.proofs.replace.+walk_walk_all.Goals as goal
+
+pub walk-returns-in-Refused : goal.walk-returns-in-Refused
+walk-returns-in-Refused t c = λ q. absurd (not_refused q.term q.more q.bytes q.fits c.read_record.ensures c.in-Refused.is)
+
+pub walk-copy-requires : goal.walk-copy-requires
+walk-copy-requires t c =
+    let q = c.requires in
+    var_room q (headed q.term q.more q.bytes q.fits c.read_record.ensures c.in-Found.is) (is_var q (headed q.term q.more q.bytes q.fits c.read_record.ensures c.in-Found.is) c.is_named.ensures c.both.ensures c.if-both.true)
+
+pub walk-returns-then-both : goal.walk-returns-then-both
+walk-returns-then-both t c = λ q.
+    var_done q (headed q.term q.more q.bytes q.fits c.read_record.ensures c.in-Found.is) (is_var q (headed q.term q.more q.bytes q.fits c.read_record.ensures c.in-Found.is) c.is_named.ensures c.both.ensures c.if-both.true) c.copy.ensures
+
+pub walk-copy-requires-2 : goal.walk-copy-requires-2
+walk-copy-requires-2 t c =
+    let q = c.requires in
+    own_room q (headed q.term q.more q.bytes q.fits c.read_record.ensures c.in-Found.is) (is_var q (headed q.term q.more q.bytes q.fits c.read_record.ensures c.in-Found.is) c.is_named.ensures c.both.ensures c.if-both.false)
+
+pub walk-overflow_sub-left : goal.walk-overflow_sub-left
+walk-overflow_sub-left t c = some_left c.requires
+
+pub walk-walk_all-requires : goal.walk-walk_all-requires
+walk-walk_all-requires t c =
+    let q = c.requires in (
+      omega (arith, c.decreases, some_left q, arity_small c.in-Found.head.kind c.arity-count.result c.arity-count.ensures),
+      all_ready q (headed q.term q.more q.bytes q.fits c.read_record.ensures c.in-Found.is) (is_var q (headed q.term q.more q.bytes q.fits c.read_record.ensures c.in-Found.is) c.is_named.ensures c.both.ensures c.if-both.false) (is_first q (headed q.term q.more q.bytes q.fits c.read_record.ensures c.in-Found.is) c.is_named-2.ensures c.unless-first.ensures) (is_others q (headed q.term q.more q.bytes q.fits c.read_record.ensures c.in-Found.is) c.is_named-3.ensures c.unless-others.ensures) c.copy-2.auto.out c.arity-count.ensures,
+    )
+
+pub walk-returns : goal.walk-returns
+walk-returns t c = λ q.
+    all_done q (headed q.term q.more q.bytes q.fits c.read_record.ensures c.in-Found.is) (is_var q (headed q.term q.more q.bytes q.fits c.read_record.ensures c.in-Found.is) c.is_named.ensures c.both.ensures c.if-both.false) (is_first q (headed q.term q.more q.bytes q.fits c.read_record.ensures c.in-Found.is) c.is_named-2.ensures c.unless-first.ensures) (is_others q (headed q.term q.more q.bytes q.fits c.read_record.ensures c.in-Found.is) c.is_named-3.ensures c.unless-others.ensures) c.copy-2.ensures c.copy-2.auto.out c.arity-count.ensures c.walk_all.ensures
+
+pub walk_all-loop-due-init : goal.walk_all-loop-due-init
+walk_all-loop-due-init t c = all_due c.requires
+
+pub walk_all-walk-a-requires : goal.walk_all-walk-a-requires
+walk_all-walk-a-requires t c = (omega arith, first_ready c.loop-due.invariant.asked (omega (arith, c.loop-due-test.true)))
+
+pub walk_all-overflow_add-a : goal.walk_all-overflow_add-a
+walk_all-overflow_add-a t c =
+    omega (arith, level_small c.loop-due.invariant.asked (omega (arith, c.loop-due-test.true)) c.walk-a.auto.out c.walk-a.ensures)
+
+pub walk_all-overflow_add-records : goal.walk_all-overflow_add-records
+walk_all-overflow_add-records t c =
+    omega (arith, count_small c.loop-due.invariant.asked (omega (arith, c.loop-due-test.true)) c.walk-a.auto.out c.walk-a.ensures)
+
+pub walk_all-overflow_add-behind : goal.walk_all-overflow_add-behind
+walk_all-overflow_add-behind t c =
+    omega (arith, used_inside c.loop-due.invariant.asked (omega (arith, c.loop-due-test.true)) c.walk-a.auto.out c.walk-a.ensures)
+
+pub walk_all-loop-due-preserved : goal.walk_all-loop-due-preserved
+walk_all-loop-due-preserved t c =
+    due_again c.loop-due.invariant c.loop-due-test.true c.walk-a.auto.out c.walk-a.ensures c.larger-depth.ensures
+
+pub walk_all-returns : goal.walk_all-returns
+walk_all-returns t c = none_due c.loop-due.invariant c.loop-due-test.false

@@ -1,0 +1,20 @@
+-- `replace::copy` meets its contract.
+use mathlib.Core.Path.{◌≡◌, refl, ap, ◌∙◌}
+use Prim.Native.Nat.{◌+◌, ◌-◌, ◌≤◌}
+use native.Mathlib.Numerals.{add-one}
+use native.Mathlib.Omega.{arith}
+use borrow.Author.Tests.{not-true, not-false}
+use lib.ListN.{length, length-set}
+use lib.Seq.{paste, paste-zero, paste-suc}
+use Rattle.expr.proofs.Copied.{pasted_is}
+use Rattle.expr.proofs.replace.copy.Goals as goal
+
+pub loop-i-preserved : goal.loop-i-preserved
+loop-i-preserved c =
+    let a = c.args in
+    let l = c.loop-i in (
+      omega arith,
+      simp length-set l.invariant.1,
+      rw (l.invariant.2, add-one l.i) (paste-suc a.out.now a.at a.from.now l.i 0 (omega arith) (omega arith)),
+      l.invariant.3,
+    )
