@@ -1,3 +1,2 @@
 -- Laws of lent patterns and of their costs.
 pub mod Lent
-pub mod Numbers

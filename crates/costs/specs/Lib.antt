@@ -1,4 +1,3 @@
 -- What a pattern that a host lends will cost. Read in this order.
 pub mod Lent
-pub mod Claims
 pub mod Results

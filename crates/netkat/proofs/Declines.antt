@@ -26,7 +26,6 @@ use Rattle.desugar.specs.Negation.{is_test}
 use Rattle.desugar.specs.Rules.{range_rule}
 use Rattle.desugar.proofs.Limit.{Costs, desugar_costs, draws_of, gives, limit_of, limited, stops}
 use Rattle.costs.specs.Lent.{lent_cost, lent_pattern}
-use Rattle.costs.proofs.Numbers.{cost_named}
 use Rattle.cores.specs.Claims.{CoreNumber}
 use Rattle.cores.specs.Reading.{decode_core, into_list, read_core}
 use Rattle.cores.proofs.CorePlaces.{core_numbers, number_some}
@@ -34,10 +33,11 @@ use Rattle.packets.specs.Running.{max_packets, packet_bytes, passing, run_packet
 use Rattle.packets.specs.Claims.{PacketsNumber}
 use Rattle.packets.proofs.Meaning.{short_is, short_of}
 use Rattle.netkat.specs.Check.{check, check_bytes, first_failure, test_sort}
-use Rattle.netkat.specs.Claims.{Allowed, FirstHighest}
+use Rattle.netkat.specs.Claims.{Allowed, CostNumber, FirstHighest}
 use Rattle.netkat.specs.Demands.{CheckDeclined, CoreDeclined, CostDeclined, DesugarDeclined, FieldsDeclined, InLimits, PacketsDeclined, SubrangeInside, SubstituteDeclined}
 use Rattle.netkat.specs.Points.{Point, walk}
 use Rattle.netkat.proofs.AtPoint.{refusal_of, seen_answer, seen_at}
+use Rattle.netkat.proofs.Costs.{cost_numbers}
 use Rattle.netkat.proofs.HighestField.{First, first_highest, first_refused, found, none, refused_at_first}
 use Rattle.netkat.proofs.Numbers.{Numbered, failure_numbers}
 use Rattle.netkat.proofs.Rules.{same_refusal, then_same}
@@ -49,7 +49,7 @@ pub record Decided {A : Type 0} (declined : ℕ → ℕ → Type 0) (x : Answer 
   pub named : (k p : ℕ) → x ≡ refuse k p → 1 ≤ k
 
 -- from the causes both ways, and their numbers
-pub decided : {A : Type 0} (D : ℕ → ℕ → Type 0) (x : Answer A) → ((k p : ℕ) → D k p → x ≡ refuse k p) → ((k p : ℕ) → x ≡ refuse k p → D k p)
+decided : {A : Type 0} (D : ℕ → ℕ → Type 0) (x : Answer A) → ((k p : ℕ) → D k p → x ≡ refuse k p) → ((k p : ℕ) → x ≡ refuse k p → D k p)
     → ((k p : ℕ) → D k p → 1 ≤ k) → Decided D x
 decided D x f g n = record { causes = λ k p. (f k p, g k p); named = λ k p e. n k p (g k p e) }
 
@@ -62,11 +62,11 @@ decided_map f x h =
 
 -- ## Refusals as equations
 
-pub ok_is_no_refusal : {A : Type 0} {a : A} {k p : ℕ} → ok a ≡ refuse k p → ⊥
+ok_is_no_refusal : {A : Type 0} {a : A} {k p : ℕ} → ok a ≡ refuse k p → ⊥
 ok_is_no_refusal e = let z : ◌≡◌ {A = ℕ} 0 1 = cc in absurd (omega arith)
 
 -- a cause of one number and place is a cause of the number and place that were answered
-pub at_refusal : {A : Type 0} (D : ℕ → ℕ → Type 0) {q m k p : ℕ} → ◌≡◌ {A = Answer A} (refuse q m) (refuse k p) → D q m → D k p
+at_refusal : {A : Type 0} (D : ℕ → ℕ → Type 0) {q m k p : ℕ} → ◌≡◌ {A = Answer A} (refuse q m) (refuse k p) → D q m → D k p
 at_refusal D {q} {m} {k} {p} e d = let a : q ≡ k = cc in let b : m ≡ p = cc in subst (λ i. D i p) a (subst (λ i. D q i) b d)
 
 -- ## Form, Test fragment
@@ -123,8 +123,15 @@ module _ (s e p k : ℕ) (a b : List ℕ × ℕ) where
           (ap (λ (x : Answer (Unit {0})). and_then x (λ _. ok (tt {0}))) (refusal_of (pattern_cost m (e - s)) (range_rule (Direct s e) (Matches m) (s, e) 0) h))
       back r q (refuse n t) f h = CostDeclined.form r q (f ∙ same_refusal h)
 
+      at_least_one : (r : ℕ) → CostNumber r → 1 ≤ r
+      at_least_one r (inl h) = omega arith
+      at_least_one r (inr (inl h)) = omega arith
+      at_least_one r (inr (inr (inl h))) = omega arith
+      at_least_one r (inr (inr (inr (inl h)))) = omega arith
+      at_least_one r (inr (inr (inr (inr h)))) = omega (arith, h.0)
+
       numbers : (r q : ℕ) → CostDeclined s e p k a b r q → 1 ≤ r
-      numbers r q d = cost_named s e p k a b r q (forth r q d)
+      numbers r q d = at_least_one r (cost_numbers s e p k a b r q (forth r q d)).0
 
 -- ## Field count
 

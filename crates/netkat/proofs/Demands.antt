@@ -3,7 +3,6 @@ use mathlib.Core.Path.{◌≡◌, refl, sym, ap, subst, ◌∙◌}
 use mathlib.Core.Logic.Iff
 use mathlib.Core.Logic.{◌↔◌}
 use mathlib.Core.List.{List, [], ◌∷◌, ◌++◌}
-use mathlib.Core.Option.{none}
 use Prim.Native.Nat.{ℕ, ◌-◌, ◌≤◌}
 use native.Mathlib.Omega.{arith}
 use lib.ListN.{drop, length, take}
@@ -23,19 +22,16 @@ use Rattle.desugar.proofs.Limit.{Costs, desugar_costs, draws_of, gives, limit_of
 use Rattle.costs.specs.Lent.{lent_cost}
 use Rattle.cores.specs.Reading.{read_core}
 use Rattle.packets.specs.Running.{run_packets}
-use Rattle.tables.specs.Tables.{add_rule, find_rule, overlapping, rules_after}
-use Rattle.tables.specs.declared.Rule.{Rule}
 use Rattle.netkat.specs.Check.{RulesHold, check_bytes, test_sort}
 use Rattle.netkat.specs.Claims.{Desugared, Desugars, Good}
 use Rattle.netkat.specs.Demands.{AtPassing, Covers, Declined, Demand1, Demand2, Demand3, OnGood, WholeTerm}
-use Rattle.netkat.specs.Entry.{Answers, Call, Check, Cost, Desugar, FieldCount, Hosts, Lent, ReadCore, RuleAdd, RuleFind, RuleOverlaps, RunPackets, Subrange, Substitute, TestFragment, halved, hosted, indexed}
+use Rattle.netkat.specs.Entry.{Answers, Call, Check, Cost, Desugar, FieldCount, Hosts, ReadCore, RunPackets, Subrange, Substitute, TestFragment, halved, hosted}
 use Rattle.netkat.specs.Points.{Point, definitions, desugar_at}
 use Rattle.netkat.specs.declared.Answer.{Answer as HostAnswer}
 use Rattle.netkat.proofs.AtPoint.{desugar_at_means, desugar_at_succeeds}
 use Rattle.netkat.proofs.Declines.{Decided, check_decided, core_decided, cost_decided, decided_map, desugar_decided, fields_decided, fragment_decided, packets_decided, subrange_decided, substitute_decided}
 use Rattle.netkat.proofs.Forms.{each_form}
 use Rattle.netkat.proofs.OneStepKinds.{one_step_kinds}
-use Rattle.netkat.proofs.TableDeclines.{add_decided, find_decided, overlaps_decided}
 use Rattle.netkat.proofs.Whole.{check_bytes_fact, desugar_bytes_fact, desugared_bytes, rest, within_limits}
 
 -- ## Demand 1
@@ -52,7 +48,7 @@ module _ {A : Type 0} {declined : ℕ → ℕ → Type 0} (f : A → ℕ × ℕ)
     (λ k. let z : ◌≡◌ {A = ℕ} 0 1 = cc k.1 in absurd (omega arith)),
   )
 
-  hosted_demand : (x : Answer A) → Decided declined x → r ≡ hosted (map_answer f x) → {B : Type 0} (out out' : B) → ((k p : ℕ) → x ≡ refuse k p → out' ≡ out)
+  hosted_demand : (x : Answer A) → Decided declined x → r ≡ hosted (map_answer f x) → (out out' : List ℕ) → ((k p : ℕ) → x ≡ refuse k p → out' ≡ out)
       → Demand1 declined out out' r
   hosted_demand (ok a) h e out out' b =
       record {
@@ -86,7 +82,7 @@ buffered x h out out' r k =
     hosted_demand (λ p. (length p.0, p.1)) r x h k.answer out out'
     (λ q m e. k.buffer ∙ ap (λ (y : Answer (List ℕ × ℕ)). buffer_after (map_answer (λ p. p.0) y) out) e)
 
-pub each_call : (c : Call) (out out' : Lent c) (r : HostAnswer) → Answers c out out' r → Demand1 (Declined c out) out out' r
+pub each_call : (c : Call) (out out' : List ℕ) (r : HostAnswer) → Answers c out out' r → Demand1 (Declined c (length out)) out out' r
 each_call (Check bs) out out' r h = hosted_demand (λ b. (bit b, 0)) r (check_bytes bs) (check_decided bs) h.0 out out' (λ k p e. h.1)
 each_call (TestFragment bs) out out' r h = hosted_demand (λ b. (bit b, 0)) r (fragment_bytes bs) (fragment_decided bs) h.0 out out' (λ k p e. h.1)
 each_call (FieldCount bs) out out' r h = hosted_demand (λ n. (n, 0)) r (fields_bytes bs) (fields_decided bs) h.0 out out' (λ k p e. h.1)
@@ -106,32 +102,21 @@ each_call (ReadCore bs) out out' r h =
     (λ q m e. h.records ∙ ap (λ (y : Answer (Core × ℕ)). buffer_after (map_answer (λ p. words p.0) y) out) e)
 each_call (RunPackets bs room ps ns) out out' r h =
     hosted_demand halved r (run_packets bs room ps ns) (packets_decided bs room ps ns) h.0 out out' (λ q m f. h.1)
-each_call (RuleAdd n w p k a b) out out' r h =
-    hosted_demand (λ x. (x.0, 0)) r (add_rule out n w p k a b) (add_decided out n w p k a b) h.answer out out'
-    (λ q m e. h.places ∙ ap (λ (y : Answer (ℕ × List Rule)). rules_after y out) e)
-each_call (RuleFind rules n w v) out out' r h =
-    hosted_demand indexed r (find_rule rules n w h.0.index) (find_decided rules n w h.0.index) h.0.answer out out' (λ q m f. h.1)
-each_call (RuleOverlaps rules n w l u) out out' r h =
-    buffered (map_answer (λ is. (is, 0)) (overlapping rules n w (length out) l u))
-    (decided_map (λ is. (is, 0)) (overlapping rules n w (length out) l u) (overlaps_decided rules n w (length out) l u)) out out' r h
 
 -- no refusal has the number 0
 cause_named : {A : Type 0} {D : ℕ → ℕ → Type 0} {x : Answer A} → Decided D x → (k p : ℕ) → D k p → 1 ≤ k
 cause_named h k p d = h.named k p ((h.causes k p).0 d)
 
-pub never_zero : (c : Call) (out : Lent c) (k p : ℕ) → Declined c out k p → 1 ≤ k
-never_zero (Check bs) out = cause_named (check_decided bs)
-never_zero (TestFragment bs) out = cause_named (fragment_decided bs)
-never_zero (FieldCount bs) out = cause_named (fields_decided bs)
-never_zero (Desugar bs n work) out = cause_named (desugar_decided bs n work (length out))
-never_zero (Substitute bs x rs) out = cause_named (substitute_decided bs x rs (length out))
-never_zero (Subrange a b s e) out = cause_named (subrange_decided a b s e)
-never_zero (Cost s e p k a b) out = cause_named (cost_decided s e p k a b)
-never_zero (ReadCore bs) out = cause_named (core_decided bs (length out))
-never_zero (RunPackets bs list ps ns) out = cause_named (packets_decided bs list ps ns)
-never_zero (RuleAdd n w p k a b) out = cause_named (add_decided out n w p k a b)
-never_zero (RuleFind rules n w v) out = cause_named (find_decided rules n w none)
-never_zero (RuleOverlaps rules n w l h) out = cause_named (overlaps_decided rules n w (length out) l h)
+pub never_zero : (c : Call) (room k p : ℕ) → Declined c room k p → 1 ≤ k
+never_zero (Check bs) room = cause_named (check_decided bs)
+never_zero (TestFragment bs) room = cause_named (fragment_decided bs)
+never_zero (FieldCount bs) room = cause_named (fields_decided bs)
+never_zero (Desugar bs n work) room = cause_named (desugar_decided bs n work room)
+never_zero (Substitute bs x rs) room = cause_named (substitute_decided bs x rs room)
+never_zero (Subrange a b s e) room = cause_named (subrange_decided a b s e)
+never_zero (Cost s e p k a b) room = cause_named (cost_decided s e p k a b)
+never_zero (ReadCore bs) room = cause_named (core_decided bs room)
+never_zero (RunPackets bs list ps ns) room = cause_named (packets_decided bs list ps ns)
 
 -- ## Demand 2
 

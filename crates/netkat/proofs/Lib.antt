@@ -1,5 +1,4 @@
 -- Laws of the definitions, and the theorems of the three demands.
-pub mod Contracts
 pub mod CheckWalk
 pub mod CheckLeaves
 pub mod CheckLaws
@@ -16,10 +15,7 @@ pub mod Forms
 pub mod HighestField
 pub mod Costs
 pub mod Declines
-pub mod TableDeclines
-pub mod TableHosts
 pub mod Demands
-pub mod RuleMatches
 pub mod LongLiterals
 pub mod ReadBack
 pub mod Theorems

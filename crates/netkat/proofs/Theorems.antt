@@ -34,9 +34,7 @@ use Rattle.desugar.specs.Probes.{answered, computed, further, longer, refusals, 
 use Rattle.desugar.proofs.Costs.{cost_is_draw, cost_spends, range_draws_most}
 use Rattle.desugar.proofs.Limit.{limit}
 use Rattle.desugar.proofs.Probes.{further_probes, longer_probes, refused_probes, starred_probes, too_long_probes}
-use Rattle.costs.specs.Claims.{CostNumber}
 use Rattle.costs.specs.Lent.{lent_cost}
-use Rattle.costs.proofs.Numbers.{cost_numbers}
 use Rattle.cores.specs.Claims.{AsForTerms, CoreNumber}
 use Rattle.cores.specs.Reading.{CoreWithin, decode_core, into_list, read_core, read_cores}
 use Rattle.cores.proofs.CoreForm.{core_exact, decode_many, equal_records, read_back}
@@ -45,13 +43,13 @@ use Rattle.packets.specs.Claims.{EachBit, PacketsNumber, total}
 use Rattle.packets.specs.Running.{packet_bytes, packet_of, run_packets}
 use Rattle.packets.proofs.Meaning.{packet_lies, ran_alone, ran_as, ran_means, ran_small, ran_unused}
 use Rattle.netkat.specs.Check.{RulesHold, check, check_bytes, first_failure, test_sort}
-use Rattle.netkat.specs.Claims.{Accepted, AtPoint, Desugared, Desugars, Good, Inside, PointAt, RangeLimit, Refusal, TakesWhole}
+use Rattle.netkat.specs.Claims.{Accepted, AtPoint, CostNumber, Desugared, Desugars, Good, Inside, PointAt, RangeLimit, Refusal, TakesWhole}
 use Rattle.netkat.specs.Demands.{Declined, Demand1, Demand2, Demand3}
-use Rattle.netkat.specs.Entry.{Answers, Call, HostsCore, Lent}
+use Rattle.netkat.specs.Entry.{Answers, Call, HostsCore}
 use Rattle.netkat.specs.Points.{Point, Scope, definitions, desugar_at, walk}
 use Rattle.netkat.specs.declared.Answer.{Answer as HostAnswer}
 use Rattle.netkat.proofs.AtPoint.{desugar_at_answers, desugar_at_means, desugar_at_succeeds}
-use Rattle.netkat.proofs.Costs.{cost_drawn}
+use Rattle.netkat.proofs.Costs.{cost_drawn, cost_numbers}
 use Rattle.netkat.proofs.Declines.{packets_decided, packets_declined_numbers}
 use Rattle.netkat.proofs.Demands.{each_call, never_zero, points_and_whole, trees_and_forms}
 use Rattle.netkat.proofs.Inside.{each_record, inside_points, walk_inside, walk_length}
@@ -66,11 +64,11 @@ use Rattle.netkat.proofs.Whole.{check_bytes_fact, desugar_bytes_fact, desugared_
 -- "Malformed bytes, broken rules, numbers out of range, a spent allowance and short buffers are refused, each by its number and place in
 -- document 01, with the answer buffer untouched. All other input is accepted. Every call on any bytes ends.": of every exported function,
 -- whose contract is Answers (specs/Entry.antt). That a call ends is part of what the prover shows of each function
-pub demand_1 : (c : Call) (out out' : Lent c) (r : HostAnswer) → Answers c out out' r → Demand1 (Declined c out) out out' r
+pub demand_1 : (c : Call) (out out' : List ℕ) (r : HostAnswer) → Answers c out out' r → Demand1 (Declined c (length out)) out out' r
 demand_1 = each_call
 
 -- "A call answers success or a refusal number with a place.": no refusal of an operation has the number 0, by which a host tells success
-pub number_theorem : (c : Call) (out : Lent c) (k p : ℕ) → Declined c out k p → 1 ≤ k
+pub number_theorem : (c : Call) (room k p : ℕ) → Declined c room k p → 1 ≤ k
 number_theorem = never_zero
 
 -- "For every term within document 01's limits, with an allowance and buffers that cover it, the core is the tree that `desugar` gives, and a
@@ -315,7 +313,7 @@ range_cost_theorem = range_draws_most
 pub highest_cost_theorem : drawn_total [] (Ranged (Direct 0 128) (Matches (IpRange (bits_of 128 (2 ^ 127)) (bits_of 128 (2 ^ 128 - 1 - 2 ^ 126))))) 0 ≡ ok 33529
 highest_cost_theorem = cost_is_draw [] (Direct 0 128) (IpRange (bits_of 128 (2 ^ 127)) (bits_of 128 (2 ^ 128 - 1 - 2 ^ 126))) 0 128 0 refl ∙ refl
 
--- "refused as the match would be, but never by 24, 26 or lack of room": by 1, 5, 14, 15 or 17 to 21 (costs/specs/Claims.antt: CostNumber), at place 0. Which
+-- "refused as the match would be, but never by 24, 26 or lack of room": by 1, 5, 14, 15 or 17 to 21 (specs/Claims.antt: CostNumber), at place 0. Which
 -- of them it is, `demand-1` says
 pub cost_numbers_theorem : (s e p k : ℕ) (a b : List ℕ × ℕ) (r q : ℕ) → lent_cost s e p k a b ≡ refuse r q → CostNumber r × (q ≡ 0)
 cost_numbers_theorem = cost_numbers

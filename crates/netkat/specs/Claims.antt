@@ -1,16 +1,12 @@
 -- What the theorems claim of points and of whole terms (document 01, "The words of demand 3"; the theorems stand in
 -- proofs/Theorems.antt).
-use mathlib.Core.{Path.◌≡◌, Logic.◌↔◌, Bool.true, Bool.false, Option.some, List.List, List.[], List.◌∷◌, List.◌++◌, List.Memᴰ}
-use Rattle.std.specs.Prelude.{ℕ, ◌+◌, ◌-◌, ◌^◌, ◌≤◌, ◌<◌}
-use lib.{ListN.length, ListN.get_or}
-use Rattle.literals.specs.{Bits.Bits, Bits.value_of, Patterns.Pattern, Patterns.Exact, Patterns.Cidr, Patterns.Wildcard}
-use Rattle.expr.specs.{Answers.Answer, Answers.ok, Answers.refuse, Answers.map_answer, Answers.and_then, Terms.Zero, Terms.One, Terms.Top, Terms.Dup, Terms.End, Terms.Assign, Terms.Test, Terms.Op1, Terms.Op2, Terms.Core, Terms.Name, Terms.Expr, Terms.Plain, Terms.Unary, Terms.Binary, Terms.TestNegation, Terms.IfThenElse, Terms.Let, Terms.LetBitRange, Terms.Var, Terms.Ranged, Terms.Where, Terms.Direct, Terms.Use, Terms.Assigns, Terms.Tests, Terms.Matches, Terms.atom_kind, Terms.op1_kind, Terms.op2_kind, Terms.records, Form.decode, Form.encode, Form.encode_core, Form.ranged_record}
-use Rattle.desugar.specs.{Bindings.variable, Bindings.range, Bindings.find_range, Meter.spent, Meter.drawn, Meter.overdrawn, Desugar.desugar, Desugar.desugar_bytes, Desugar.max_allowance, Desugar.work_for, Negation.is_test, Packets.one_step, Packets.OneStep, Packets.Others, Packets.Packet, Packets.core_means, Claims.Limit, Claims.TestsFor}
-use Rattle.costs.specs.{Lent.lent_pattern}
-use Rattle.tables.specs.{Rules.holds, Tables.no_rule}
-use Rattle.tables.specs.declared.Rule.{Rule}
+use mathlib.Core.{Path.◌≡◌, Logic.◌⊎◌, Logic.◌↔◌, Bool.true, List.List, List.[], List.◌∷◌, List.◌++◌, List.Memᴰ}
+use Rattle.std.specs.Prelude.{ℕ, ◌+◌, ◌^◌, ◌≤◌, ◌<◌}
+use lib.{ListN.length}
+use Rattle.literals.specs.{Bits.Bits, Bits.value_of, Patterns.Exact, Patterns.Cidr, Patterns.Wildcard}
+use Rattle.expr.specs.{Answers.Answer, Answers.ok, Answers.refuse, Answers.map_answer, Answers.and_then, Terms.Zero, Terms.One, Terms.Top, Terms.Dup, Terms.End, Terms.Assign, Terms.Test, Terms.Op1, Terms.Op2, Terms.Core, Terms.Name, Terms.Expr, Terms.Plain, Terms.Unary, Terms.Binary, Terms.TestNegation, Terms.IfThenElse, Terms.Let, Terms.LetBitRange, Terms.Var, Terms.Ranged, Terms.Use, Terms.Assigns, Terms.Tests, Terms.Matches, Terms.atom_kind, Terms.op1_kind, Terms.op2_kind, Terms.records, Form.decode, Form.encode, Form.encode_core, Form.ranged_record}
+use Rattle.desugar.specs.{Bindings.variable, Bindings.range, Meter.spent, Meter.drawn, Meter.overdrawn, Desugar.desugar, Desugar.desugar_bytes, Desugar.max_allowance, Desugar.work_for, Negation.is_test, Packets.one_step, Packets.OneStep, Packets.Others, Packets.Packet, Packets.core_means, Claims.Limit}
 use Rattle.netkat.specs.{Points.Scope, Points.Point, Points.walk, Points.definitions, Points.desugar_at, Points.means_at, Points.one_steps, Check.RulesHold, Check.first_failure, Check.sorts, Check.test_sort, Check.check_bytes}
-use Rattle.netkat.specs.declared.Answer.{Answer as HostAnswer}
 
 -- ## Points
 
@@ -137,22 +133,11 @@ pub record Desugared (bs : List ℕ) (out : List ℕ) (m : ℕ) : Type 0 where
   pub bytes : out ≡ encode_core core
   pub total : m ≡ drawn draws
 
--- ## Change 4 of document 02
+-- ## Change 5 of document 02
 
--- "A rule's pattern, desugared over that field, is true of the same values as the record.": of the rule r that a lent pattern makes over w bits
-pub record RuleMatches (others : Others) (w p k : ℕ) (a b : List ℕ × ℕ) (r : Rule) : Type 0 where
-  pub pattern : Pattern
-  pub lent : lent_pattern p k a b ≡ ok pattern
-  -- its match on any w fields is not refused
-  pub accepted : (s at : ℕ) → (c : Core) × (desugar_at [] (Ranged (Direct s (s + w)) (Matches pattern)) at ≡ ok c)
-  -- and under any Lets and LetBitRanges around it, where its range is written out or its alias has it, its core is true of those values
-  pub same : (sc : Scope) (x : Where) (s e at : ℕ) → find_range sc x ≡ some (s, e) → e - s ≡ w
-      → (c : Core) → desugar_at sc (Ranged x (Matches pattern)) at ≡ ok c → TestsFor others c s e (λ v. holds r v ≡ true)
-
--- "a rule that holds of a given value, or none", "None is answered only if no rule holds.": what the two values of the answer r say of the n rules in front
-pub data FoundOrNone (rules : List Rule) (n v : ℕ) (r : HostAnswer) : Type 0 where
-  found : r.first ≡ 1 → r.second < n → holds (get_or rules r.second no_rule) v ≡ true → FoundOrNone rules n v r
-  none : r.first ≡ 0 → r.second ≡ 0 → ((i : ℕ) → i < n → holds (get_or rules i no_rule) v ≡ false) → FoundOrNone rules n v r
+-- 1, 5, 14, 15 or 17 to 21
+abbrev pub CostNumber : ℕ → Type 0
+CostNumber r = (r ≡ 1) ⊎ ((r ≡ 5) ⊎ ((r ≡ 14) ⊎ ((r ≡ 15) ⊎ ((17 ≤ r) × (r ≤ 21)))))
 
 -- ## Change 6 of document 02
 

@@ -9,8 +9,7 @@ use Rattle.desugar.specs.{Bindings.find_range, Meter.drawn, Meter.overdrawn, Neg
 use Rattle.costs.specs.{Lent.lent_pattern}
 use Rattle.cores.specs.{Reading.decode_core, Reading.read_core}
 use Rattle.packets.specs.{Running.max_packets, Running.packet_bytes, Claims.FirstShort}
-use Rattle.tables.specs.{Tables.max_rules, Tables.max_width}
-use Rattle.netkat.specs.{Points.Scope, Points.Point, Points.walk, Points.definitions, Points.desugar_at, Points.means_at, Check.RulesHold, Check.first_failure, Entry.hosted, Entry.Hosts, Entry.Call, Entry.Check, Entry.TestFragment, Entry.FieldCount, Entry.Desugar, Entry.Substitute, Entry.Subrange, Entry.Cost, Entry.ReadCore, Entry.RunPackets, Entry.RuleAdd, Entry.RuleFind, Entry.RuleOverlaps, Entry.Lent, Entry.Answers, Claims.FirstHighest, Claims.OneStepKinds, Claims.Good, Claims.Allowed, Claims.Unlimited, Claims.Outcome, Claims.Desugared}
+use Rattle.netkat.specs.{Points.Scope, Points.Point, Points.walk, Points.definitions, Points.desugar_at, Points.means_at, Check.RulesHold, Check.first_failure, Entry.hosted, Entry.Hosts, Entry.Call, Entry.Check, Entry.TestFragment, Entry.FieldCount, Entry.Desugar, Entry.Substitute, Entry.Subrange, Entry.Cost, Entry.ReadCore, Entry.RunPackets, Entry.Answers, Claims.FirstHighest, Claims.OneStepKinds, Claims.Good, Claims.Allowed, Claims.Unlimited, Claims.Outcome, Claims.Desugared}
 use Rattle.netkat.specs.declared.Answer.{Answer as HostAnswer}
 
 -- ## Demand 1: what is refused
@@ -83,50 +82,22 @@ pub data PacketsDeclined (bs : List ℕ) (room : ℕ) (slice lengths : List ℕ)
   short : (c : Core) (n i : ℕ) → read_core bs room ≡ ok (c, n) → is_test c ≡ true → (1 ≤ length lengths) × (length lengths ≤ max_packets)
       → FirstShort n (packet_bytes lengths slice) i → PacketsDeclined bs room slice lengths 50 i
 
--- "A table lent with under 256 places is 10, first." "47, a width outside 1 to 128, a length over 256": of the n rules of a table of width w
-pub data TableDeclined (places n w : ℕ) : (number place : ℕ) → Type 0 where
-  short : places < max_rules → TableDeclined places n w 10 0
-  limits : max_rules ≤ places → ¬ ((1 ≤ w) × (w ≤ max_width) × (n ≤ max_rules)) → TableDeclined places n w 47 0
+-- "each by its number and place in document 01": a call with an answer buffer of room bytes, or a record list of room numbers that it answers in, is
+-- to be refused by a number at a place. Those of form are `decode`'s (expr/specs/Form), `lent_pattern`'s (costs/specs/Lent) and `decode_core`'s
+-- (cores/specs/Reading), those of the rules `rule_at`'s (Check)
+abbrev pub Declined : Call → (room number place : ℕ) → Type 0
+Declined (Check bs) room r p = CheckDeclined bs r p
+Declined (TestFragment bs) room r p = decode bs ≡ refuse r p
+Declined (FieldCount bs) room r p = FieldsDeclined bs r p
+Declined (Desugar bs n work) room r p = DesugarDeclined bs n work room r p
+Declined (Substitute bs x rs) room r p = SubstituteDeclined bs x rs room r p
+Declined (Subrange a b s e) room r p = ¬ SubrangeInside a b s e × (r ≡ 28) × (p ≡ 0)
+Declined (Cost s e p k a b) room r q = CostDeclined s e p k a b r q
+Declined (ReadCore bs) room r p = CoreDeclined bs room r p
+Declined (RunPackets bs list ps ns) room r p = PacketsDeclined bs list ps ns r p
 
--- a table that is not refused
-pub record TableTaken (places n w : ℕ) : Type 0 where
-  pub enough : max_rules ≤ places
-  pub width : (1 ≤ w) × (w ≤ max_width)
-  pub few : n ≤ max_rules
-
--- Rule add (document 02, change 4): "47, .. or a 257th rule, before the pattern is", "46, a wildcard pattern, before its lengths are looked at", "under the
--- limits in document 01": as the cost of the pattern's match on w fields
-pub data AddDeclined (places n w p k : ℕ) (a b : List ℕ × ℕ) : (number place : ℕ) → Type 0 where
-  table : (r q : ℕ) → TableDeclined places n w r q → AddDeclined places n w p k a b r q
-  full : TableTaken places n w → n ≡ max_rules → AddDeclined places n w p k a b 47 0
-  wildcard : TableTaken places n w → n < max_rules → p ≡ 2 → AddDeclined places n w p k a b 46 0
-  pattern : (r q : ℕ) → TableTaken places n w → n < max_rules → ¬ (p ≡ 2) → CostDeclined 0 w p k a b r q → AddDeclined places n w p k a b r q
-
--- Rule overlaps (document 02, change 4): "A query range that runs backwards is 21, and a list for the second lookup with under 256 numbers is 10, before
--- that and after 47."
-pub data OverlapsDeclined (places n w list l h : ℕ) : (number place : ℕ) → Type 0 where
-  table : (r q : ℕ) → TableDeclined places n w r q → OverlapsDeclined places n w list l h r q
-  short : TableTaken places n w → list < max_rules → OverlapsDeclined places n w list l h 10 0
-  backwards : TableTaken places n w → max_rules ≤ list → h < l → OverlapsDeclined places n w list l h 21 0
-
--- "each by its number and place in document 01": a call that is lent out for its answer is to be refused by a number at a place. Those of form are
--- `decode`'s (expr/specs/Form), `lent_pattern`'s (costs/specs/Lent) and `decode_core`'s (cores/specs/Reading), those of the rules `rule_at`'s (Check)
-abbrev pub Declined : (c : Call) → Lent c → (number place : ℕ) → Type 0
-Declined (Check bs) out r p = CheckDeclined bs r p
-Declined (TestFragment bs) out r p = decode bs ≡ refuse r p
-Declined (FieldCount bs) out r p = FieldsDeclined bs r p
-Declined (Desugar bs n work) out r p = DesugarDeclined bs n work (length out) r p
-Declined (Substitute bs x rs) out r p = SubstituteDeclined bs x rs (length out) r p
-Declined (Subrange a b s e) out r p = ¬ SubrangeInside a b s e × (r ≡ 28) × (p ≡ 0)
-Declined (Cost s e p k a b) out r q = CostDeclined s e p k a b r q
-Declined (ReadCore bs) out r p = CoreDeclined bs (length out) r p
-Declined (RunPackets bs list ps ns) out r p = PacketsDeclined bs list ps ns r p
-Declined (RuleAdd n w p k a b) out r q = AddDeclined (length out) n w p k a b r q
-Declined (RuleFind rules n w v) out r p = TableDeclined (length rules) n w r p
-Declined (RuleOverlaps rules n w l h) out r p = OverlapsDeclined (length rules) n w (length out) l h r p
-
--- of an answer r, and what was lent for it before and after the call; declined says by which number and place the call is to be refused
-pub record Demand1 {A : Type 0} (declined : (number place : ℕ) → Type 0) (out out' : A) (r : HostAnswer) : Type 0 where
+-- of an answer r, and the answer buffer before and after the call; declined says by which number and place the call is to be refused
+pub record Demand1 (declined : (number place : ℕ) → Type 0) (out out' : List ℕ) (r : HostAnswer) : Type 0 where
   -- "are refused, each by its number and place": exactly these, and no number is 0
   pub refused : (k p : ℕ) → declined k p ↔ ((1 ≤ k) × (r ≡ hosted (refuse k p)))
   -- "with the answer buffer untouched"

@@ -1,15 +1,13 @@
 -- The answers that a host gets (document 01, "What each operation gives, and when it declines").
-use mathlib.Core.{Path.◌≡◌, List.List, Option.Option, Option.none, Option.some}
+use mathlib.Core.{Path.◌≡◌, List.List}
 use Rattle.std.specs.Prelude.{ℕ, ◌+◌, ◌*◌, ◌/◌, ◌%◌, ◌^◌}
-use lib.{ListN.length, ListN.take}
+use lib.{ListN.length}
 use Rattle.literals.specs.{Bits.bit}
 use Rattle.expr.specs.{Answers.Answer, Answers.ok, Answers.refuse, Answers.map_answer, Answers.buffer_after, Terms.Core, Terms.Name, Terms.size, Operations.fragment_bytes, Operations.fields_bytes, Operations.substitute_bytes}
 use Rattle.desugar.specs.{Bindings.compute_subrange, Desugar.desugar_bytes, CoreRecords.words}
 use Rattle.costs.specs.{Lent.lent_cost}
 use Rattle.cores.specs.{Reading.read_core}
 use Rattle.packets.specs.{Running.run_packets}
-use Rattle.tables.specs.{Tables.add_rule, Tables.rules_after, Tables.Found, Tables.find_rule, Tables.overlapping}
-use Rattle.tables.specs.declared.Rule.{Rule}
 use Rattle.netkat.specs.{Check.check_bytes}
 use Rattle.netkat.specs.declared.Answer.{Answer as HostAnswer}
 
@@ -34,24 +32,8 @@ pub record HostsCore (x : Answer (Core × ℕ)) (out out' : List ℕ) (r : HostA
   pub answer : r ≡ hosted (map_answer (λ p. (size p.0, p.1)) x)
   pub records : out' ≡ buffer_after (map_answer (λ p. words p.0) x) out
 
--- document 02, change 4: of a table's new length and its places x. rules and rules' are the lent places before and after the call
-pub record HostsRules (x : Answer (ℕ × List Rule)) (rules rules' : List Rule) (r : HostAnswer) : Type 0 where
-  pub answer : r ≡ hosted (map_answer (λ p. (p.0, 0)) x)
-  pub places : rules' ≡ rules_after x rules
-
--- an index, behind 1, or none, as 0 and 0
-abbrev pub indexed : Option ℕ → ℕ × ℕ
-indexed (some i) = (1, i)
-indexed none = (0, 0)
-
--- document 02, change 4: "a rule that holds of a given value, or none": some index that may be answered, of the n rules in front of the places
-pub record HostsFound (rules : List Rule) (n w v : ℕ) (r : HostAnswer) : Type 0 where
-  pub index : Option ℕ
-  pub found : Found (take n rules) v index
-  pub answer : r ≡ hosted (map_answer indexed (find_rule rules n w index))
-
 -- a call of an exported function, with the bytes and numbers that it is given; of work memory, and of a record list that is scratch, its length; of a
--- lent literal, its bytes and its length in bits; of a table that is only read, its places
+-- lent literal, its bytes and its length in bits
 pub data Call : Type 0 where
   Check TestFragment FieldCount : (term : List ℕ) → Call
   Desugar : (term : List ℕ) (allowance work : ℕ) → Call
@@ -60,29 +42,11 @@ pub data Call : Type 0 where
   Cost : (start end pattern number : ℕ) (a b : List ℕ × ℕ) → Call
   ReadCore : (core : List ℕ) → Call
   RunPackets : (core : List ℕ) (room : ℕ) (packets lengths : List ℕ) → Call
-  RuleAdd : (length width pattern number : ℕ) (a b : List ℕ × ℕ) → Call
-  RuleFind : (rules : List Rule) (length width value : ℕ) → Call
-  RuleOverlaps : (rules : List Rule) (length width low high : ℕ) → Call
 
--- what a call writes its answer to: the places of a table, or the bytes or numbers of a buffer or a list
-abbrev pub Lent : Call → Type 0
-Lent (Check bs) = List ℕ
-Lent (TestFragment bs) = List ℕ
-Lent (FieldCount bs) = List ℕ
-Lent (Desugar bs n work) = List ℕ
-Lent (Substitute bs x rs) = List ℕ
-Lent (Subrange a b s e) = List ℕ
-Lent (Cost s e p k a b) = List ℕ
-Lent (ReadCore bs) = List ℕ
-Lent (RunPackets bs room ps ns) = List ℕ
-Lent (RuleAdd n w p k a b) = List Rule
-Lent (RuleFind rules n w v) = List ℕ
-Lent (RuleOverlaps rules n w l h) = List ℕ
-
--- the contract of each exported function: r is its answer, out and out' its answer buffer, its list or its table before and after the call. One
--- without any is lent nothing that it could write; Run packets writes to its record list, which is scratch and no part of this: out and out'
+-- the contract of each exported function: r is its answer, out and out' its answer buffer, or its record list, before and after the call. One
+-- without either is lent nothing that it could write; Run packets writes to its record list, which is scratch and no part of this: out and out'
 -- are empty. The first value of Check and Test fragment is 1 for yes and 0 for no
-abbrev pub Answers : (c : Call) → (out out' : Lent c) → HostAnswer → Type 0
+abbrev pub Answers : Call → (out out' : List ℕ) → HostAnswer → Type 0
 Answers (Check bs) out out' r = (r ≡ hosted (map_answer (λ b. (bit b, 0)) (check_bytes bs))) × (out' ≡ out)
 Answers (TestFragment bs) out out' r = (r ≡ hosted (map_answer (λ b. (bit b, 0)) (fragment_bytes bs))) × (out' ≡ out)
 Answers (FieldCount bs) out out' r = (r ≡ hosted (map_answer (λ n. (n, 0)) (fields_bytes bs))) × (out' ≡ out)
@@ -92,10 +56,7 @@ Answers (Subrange a b s e) out out' r = (r ≡ hosted (compute_subrange a b s e)
 Answers (Cost s e p k a b) out out' r = (r ≡ hosted (map_answer halved (lent_cost s e p k a b))) × (out' ≡ out)
 Answers (ReadCore bs) out out' r = HostsCore (read_core bs (length out)) out out' r
 Answers (RunPackets bs room ps ns) out out' r = (r ≡ hosted (map_answer halved (run_packets bs room ps ns))) × (out' ≡ out)
-Answers (RuleAdd n w p k a b) out out' r = HostsRules (add_rule out n w p k a b) out out' r
-Answers (RuleFind rules n w v) out out' r = HostsFound rules n w v r × (out' ≡ out)
-Answers (RuleOverlaps rules n w l h) out out' r = Hosts (map_answer (λ is. (is, 0)) (overlapping rules n w (length out) l h)) out out' r
 
--- this library's version, 0.6.0, as one number, for a host to compare with that of its header. Ours: no sentence of document 01 asks for it
+-- this library's version, 0.5.0, as one number, for a host to compare with that of its header. Ours: no sentence of document 01 asks for it
 abbrev pub version : ℕ
-version = 0 * 65536 + 6 * 256 + 0
+version = 0 * 65536 + 5 * 256 + 0

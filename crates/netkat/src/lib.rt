@@ -6,7 +6,6 @@ mod check;
 pub mod cost;
 pub mod operations;
 pub mod records;
-pub mod rule_tables;
 pub mod run;
 
 ghost use Rattle.std.specs.Prelude.{◌≡◌, []};
@@ -56,5 +55,5 @@ pub extern "C" fn netkat_compute_subrange(
 pub extern "C" fn netkat_version() -> u32
     ensures { result ≡ version }
 {
-    1536
+    1280
 }
