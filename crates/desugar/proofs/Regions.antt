@@ -56,7 +56,7 @@ cons {xs} {i} {y} {ys} e h = record { fits = omega (arith, h.fits); each = at }
 
 pub joined : {xs : List ℕ} {i : ℕ} (us vs : List ℕ) → Holds xs i us → Holds xs (i + length us) vs → Holds xs i (us ++ vs)
 joined {xs} {i} [] vs h t = moved t (omega arith) refl
-joined {xs} {i} (u ∷ us) vs h t = cons (head h) (joined us vs (tail h) (moved t (omega arith) refl))
+joined {xs} {i} (u ∷ us) vs h t = cons (head h) (joined {i = i + 1} us vs (tail h) (moved t (omega arith) refl))
 
 -- ## What a run of stores leaves
 

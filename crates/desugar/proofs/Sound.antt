@@ -214,8 +214,8 @@ module _ (others : Others) where
       (λ h. if_means c' t' e' (means others Rs c) (means others Rs t) (means others Rs e) s (f h.0) (g h.1) (k h.2))))))
   desugar_means {cs} {Rs} {Ps} hs (Let x d b) at =
       bind_gives (Kept Rs Ps d) (Kept Rs Ps (Let x d b)) (desugar cs d (at + 1)) _ (desugar_means hs d (at + 1)) (λ c f.
-      desugar_means (variables f hs) b (at + 1 + records d))
-  desugar_means {cs} {Rs} {Ps} hs (LetBitRange x s e b) at = desugar_means (ranges hs) b (at + 1)
+      desugar_means {cs = variable x c ∷ cs} {Rs = variable x (means others Rs d) ∷ Rs} {Ps = variable x (OneStep Ps d) ∷ Ps} (variables f hs) b (at + 1 + records d))
+  desugar_means {cs} {Rs} {Ps} hs (LetBitRange x s e b) at = desugar_means {cs = range x s e ∷ cs} {Rs = range x s e ∷ Rs} {Ps = range x s e ∷ Ps} (ranges hs) b (at + 1)
   desugar_means {cs} {Rs} {Ps} hs (Var x) at = variable_gives (lookup_alias cs x) at (variable_same x hs)
   desugar_means {cs} {Rs} {Ps} hs (Ranged (Direct s e) u) at = range_gives (Direct s e) u (some (s, e)) at
   desugar_means {cs} {Rs} {Ps} hs (Ranged (Alias x) u) at = rw (← (alias_same x hs)) (range_gives (Alias x) u (lookup_alias cs x) at)

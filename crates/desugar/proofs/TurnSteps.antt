@@ -13,7 +13,7 @@ use Rattle.expr.specs.Terms.{Core}
 use Rattle.desugar.specs.Memory.{Kept}
 use Rattle.desugar.specs.NegationOutcome.{Layout}
 use Rattle.desugar.specs.NegationRun.{core_kind, TwoNotes, drop_at, count_of, new_kind, new_value, own_words, left_code, right_code, Run, Stepped}
-use Rattle.desugar.proofs.Regions.{sets_below, over, kept_sets}
+use Rattle.desugar.proofs.Regions.{sets_below, kept_sets}
 use Rattle.desugar.proofs.Emitted.{dropped, own, count_in}
 use Rattle.desugar.proofs.Turns.{count_small, Now, now, Found, found, over_limit, leaf_run, deep, pushed, pushed_kept, op_run}
 

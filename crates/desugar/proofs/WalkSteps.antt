@@ -5,7 +5,7 @@ use Prim.Native.Nat.{ℕ, ◌+◌, ◌-◌, ◌≤◌}
 use native.Mathlib.Omega.{arith}
 use lib.ListN.{length}
 use Rattle.expr.specs.Answers.{Answer}
-use Rattle.expr.specs.Terms.{Core, one, two, Expr, Unary, TestNegation, LetBitRange, records}
+use Rattle.expr.specs.Terms.{Core, one, Expr, Unary, TestNegation, LetBitRange, records}
 use Rattle.expr.specs.Form.{encode}
 use Rattle.desugar.specs.Bindings.{Env, range}
 use Rattle.desugar.specs.Meter.{Meter, left, drawing}

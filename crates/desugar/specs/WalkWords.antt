@@ -2,7 +2,7 @@
 use mathlib.Core.{Path.◌≡◌, Bool.Bool, Bool.cond, Bool.◌&&◌, Bool.◌||◌, List.List, List.[], List.◌∷◌, List.◌++◌}
 use Rattle.std.specs.Prelude.{ℕ, ◌+◌, ◌*◌, ◌^◌, ◌≤◌, ◌<◌}
 use lib.{Dec.leb, Dec.eqb, ListN.length, ListN.drop}
-use Rattle.expr.specs.{Answers.Answer, Answers.ok, Answers.refuse, Answers.and_then, Answers.need, Terms.Op1, Terms.Op2, Terms.Union, Terms.Sequence, Terms.Core, Terms.one, Terms.two, Terms.Where, Terms.Direct, Terms.Alias, Terms.Use, Terms.Assigns, Terms.Tests, Terms.Matches, Terms.Expr, Terms.op1_kind, Terms.op2_kind, Terms.size, Terms.records, Terms.depth, Records.Record, Form.max_records, Form.encode, Form.Fits, Form.pattern_of, Replaced.encode_all, Replaced.records_all, Replaced.depth_all, Replaced.FitAll, Results.HeadInside}
+use Rattle.expr.specs.{Answers.Answer, Answers.ok, Answers.refuse, Answers.and_then, Answers.need, Terms.Op1, Terms.Op2, Terms.Union, Terms.Sequence, Terms.Core, Terms.two, Terms.Where, Terms.Direct, Terms.Alias, Terms.Use, Terms.Assigns, Terms.Tests, Terms.Matches, Terms.Expr, Terms.op1_kind, Terms.op2_kind, Terms.size, Terms.records, Terms.depth, Records.Record, Form.max_records, Form.encode, Form.Fits, Form.pattern_of, Replaced.encode_all, Replaced.records_all, Replaced.depth_all, Replaced.FitAll, Results.HeadInside}
 use Rattle.expr.specs.declared.records.Head.{Head}
 use Rattle.expr.specs.declared.records.HeadRead.TheVariants as head
 use Rattle.desugar.specs.{Bindings.Env, Desugar.desugar, Meter.Meter, Meter.left, Meter.Draws, Meter.◌>>=◌, Meter.lift, Meter.drawing, Negation.is_test, Negation.is_one, Negation.negate, Memory.words, Memory.Holds, Memory.Kept, Memory.Lies, NegationOutcome.Negates, BindingWords.Bound}

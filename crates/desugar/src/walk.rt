@@ -9,7 +9,7 @@ use expr::records::HeadRead;
 
 // The core of the term that begins at the byte `at`, of at most `left` levels, whose first record has the index `place`: under the
 // bindings around it, above the `top` of the stack. It takes the whole bytes and an index, which is faster than a new slice for each call.
-#[cycle(binary_desugar_with_env_if_then_else_let_bit_range_let_variable_otherwise_test_negation_unary)]
+#[cycle(walk)]
 pub(crate) fn desugar_with_env(
     s: &[u8],
     at: usize,
@@ -75,7 +75,7 @@ pub(crate) fn desugar_with_env(
 }
 
 // Complement, Star, LtlNext: the record goes right below its operand, wherever that lies.
-#[cycle(binary_desugar_with_env_if_then_else_let_bit_range_let_variable_otherwise_test_negation_unary)]
+#[cycle(walk)]
 fn unary(
     kind: u8,
     s: &[u8],
@@ -108,7 +108,7 @@ fn unary(
 }
 
 // TestNegation.
-#[cycle(binary_desugar_with_env_if_then_else_let_bit_range_let_variable_otherwise_test_negation_unary)]
+#[cycle(walk)]
 fn test_negation(
     s: &[u8],
     from: usize,
@@ -141,7 +141,7 @@ fn second_at(dropped: bool, top: usize, end: usize) -> usize
 }
 
 // The operators with two operands. Where a Sequence drops its first operand, the second takes its place.
-#[cycle(binary_desugar_with_env_if_then_else_let_bit_range_let_variable_otherwise_test_negation_unary)]
+#[cycle(walk)]
 fn binary(
     kind: u8,
     s: &[u8],
@@ -185,7 +185,7 @@ fn binary(
 }
 
 // IfThenElse: its condition and its first branch. Room for two records is left below the condition.
-#[cycle(binary_desugar_with_env_if_then_else_let_bit_range_let_variable_otherwise_test_negation_unary)]
+#[cycle(walk)]
 fn if_then_else(
     s: &[u8],
     from: usize,
@@ -227,7 +227,7 @@ fn if_then_else(
 }
 
 // IfThenElse: the negation of its condition, which has n records, and its other branch; the first branch has m.
-#[cycle(binary_desugar_with_env_if_then_else_let_bit_range_let_variable_otherwise_test_negation_unary)]
+#[cycle(walk)]
 fn otherwise(
     s: &[u8],
     from: usize,
@@ -266,7 +266,7 @@ fn otherwise(
 }
 
 // Let: the definition's core stays below its frame while the body is worked out.
-#[cycle(binary_desugar_with_env_if_then_else_let_bit_range_let_variable_otherwise_test_negation_unary)]
+#[cycle(walk)]
 fn let_variable(
     name: u32,
     s: &[u8],
@@ -293,7 +293,7 @@ fn let_variable(
 }
 
 // LetBitRange.
-#[cycle(binary_desugar_with_env_if_then_else_let_bit_range_let_variable_otherwise_test_negation_unary)]
+#[cycle(walk)]
 fn let_bit_range(
     name: u32,
     start: u32,

@@ -6,7 +6,7 @@ use Prim.Native.Nat.{ℕ, ◌+◌, ◌-◌, ◌^◌, ◌≤◌, ◌<◌, max}
 use native.Mathlib.Omega.{arith}
 use lib.ListN.{length, drop, length-append, length-drop}
 use lib.Seq.{drop_at, drop-drop}
-use Rattle.expr.specs.Terms.{Expr, records, depth}
+use Rattle.expr.specs.Terms.{Expr}
 use Rattle.expr.specs.Form.{encode}
 use Rattle.expr.specs.Replaced.{swap, swap_all, pasted, Ready, Done, ReadyAll, DoneAll}
 use Rattle.expr.specs.declared.replace.Job.{Job}

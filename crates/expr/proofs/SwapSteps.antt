@@ -14,7 +14,7 @@ use Rattle.expr.specs.Replaced.{named, swap, swap_all, pasted, Stands, Ready, Do
 use Rattle.expr.specs.declared.records.Head.{Head}
 use Rattle.expr.specs.declared.replace.Job.{Job}
 use Rattle.expr.specs.declared.replace.Went.{Went}
-use Rattle.expr.proofs.TermShape.{own, kids, encode_all, records_all, depth_all, encode_is, records_is, depth_is, fits_is}
+use Rattle.expr.proofs.TermShape.{kids, encode_all, records_all, depth_all, encode_is, records_is, depth_is, fits_is}
 use Rattle.expr.proofs.Arities.{arity_small}
 use Rattle.expr.proofs.HeadOf.{Headed}
 use Rattle.expr.proofs.Replacing.{of_name, free_var, free_first, free_others, Kept, swap_keeps, swap_var, kids_count, length_is}

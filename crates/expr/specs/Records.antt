@@ -1,6 +1,6 @@
 -- One record's bytes (document 01, "Term bytes" and "Form").
 use mathlib.Core.{Bool.Bool, Bool.true, Bool.false, Bool.cond, Bool.not, Bool.◌&&◌, Bool.◌||◌, List.List, List.[], List.◌∷◌, List.◌++◌}
-use Rattle.std.specs.Prelude.{ℕ, zero}
+use Rattle.std.specs.Prelude.{ℕ}
 use lib.{Dec.leb, Dec.eqb, ListN.length, ListN.get_or}
 use Rattle.literals.specs.{Bits.Bits, Bits.value_of, Bits.bit_at, Bits.bytes_of, Reading.Reads, Reading.◌>>=◌, Reading.give, Reading.ask, Reading.byte, Reading.nonzero, Reading.literal, Reading.write_literal}
 

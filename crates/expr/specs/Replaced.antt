@@ -1,5 +1,5 @@
 -- What `substitute` answers, in the words of the definitions.
-use mathlib.Core.{Path.◌≡◌, Bool.Bool, Bool.true, Bool.false, Bool.not, Bool.cond, Bool.◌&&◌, List.List, List.[], List.◌∷◌, List.◌++◌}
+use mathlib.Core.{Path.◌≡◌, Bool.Bool, Bool.true, Bool.false, Bool.cond, Bool.◌&&◌, List.List, List.[], List.◌∷◌, List.◌++◌}
 use Rattle.std.specs.Prelude.{ℕ, ◌+◌, ◌^◌, ◌≤◌, ◌<◌, max}
 use lib.{Dec.eqb, ListN.length, ListN.take, ListN.drop}
 use Rattle.expr.specs.{Answers.Answer, Answers.ok, Answers.refuse, Answers.map_answer, Answers.buffer_after, Terms.Name, Terms.Expr, Terms.records, Terms.depth, Form.decode, Form.encode, Form.Fits, Operations.substitute, Operations.substitute_bytes}

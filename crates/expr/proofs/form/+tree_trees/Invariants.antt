@@ -1,16 +1,5 @@
-use borrow.Author.Rules.{rules}
-use native.Mathlib.Omega.{arith}
-use mathlib.Core.Path.{sym}
-use mathlib.Core.List.{List}
-use Prim.Native.Nat.{ℕ, ◌+◌, ◌-◌, ◌*◌}
-use lib.ListN.{drop}
-use Rattle.expr.specs.Results.{tree_from, trees_from, TreeFormed, TreesAsked}
-use Rattle.expr.specs.declared.records.Head.{Head}
-use Rattle.expr.specs.declared.form.Formed.{Formed}
-use Rattle.expr.proofs.Arities.{arity_small}
-use Rattle.expr.proofs.FormSteps.{tree_over, tree_deep, Looked, record_refused, record_inside, record_good}
-use Prim.Native.Nat.{ℕ}
-use Rattle.expr.proofs.FormSteps.{Due, all_due, none_due, due_refused, due_good}
+use Prim.Native.Nat.{◌+◌, ◌*◌}
+use Rattle.expr.proofs.FormSteps.{Due}
 use Rattle.expr.proofs.form.+tree_trees.Given as goal
 
 -- The needs of `trees`.

@@ -1,7 +1,6 @@
 -- `form::arity` meets its contract, by ranges of kinds.
 use mathlib.Core.Path.{refl}
 use native.Mathlib.Omega.{arith}
-use borrow.Author.Rules.{rules}
 use Rattle.expr.proofs.Arities.{arity_in, arity_past}
 use Rattle.expr.proofs.form.arity.Goals as goal
 

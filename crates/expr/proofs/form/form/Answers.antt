@@ -1,5 +1,4 @@
 -- `form::form` meets its contract.
-use borrow.Author.Rules.{rules}
 use Rattle.expr.proofs.FormSteps.{form_refused, form_left_over, form_good}
 use Rattle.expr.proofs.form.form.Goals as goal
 

@@ -1,12 +1,8 @@
 -- `expr::all_fragment` meets its contract. The loop's invariant: the term is in the fragment if the terms that are left are.
 use mathlib.Core.Path.{sym, ◌∙◌}
-use Prim.Native.Nat.{◌-◌}
-use native.Mathlib.Omega.{arith}
 use borrow.Author.Tests.{not-true, not-false}
-use borrow.Author.Rules.{rules}
-use lib.ListN.{length}
 use Rattle.expr.proofs.Scans.{never_refused, step}
-use Rattle.expr.proofs.FragmentScan.{FragmentLeft, fragment_start, fragment_end, fragment_no, fragment_step}
+use Rattle.expr.proofs.FragmentScan.{fragment_start, fragment_end, fragment_no, fragment_step}
 use Rattle.expr.proofs.operations.all_fragment.Goals as goal
 
 pub loop-at-init : goal.loop-at-init

@@ -1,13 +1,9 @@
 -- `expr::count_fields` meets its contract. The loop's invariant: the term's count is that of the terms that are left, from this place and count on.
 use mathlib.Core.Path.{sym, ap, ◌∙◌}
-use mathlib.Core.Logic.{⊎_elim}
-use Prim.Native.Nat.{◌-◌}
 use native.Mathlib.Omega.{arith}
-use borrow.Author.Rules.{rules}
-use lib.ListN.{length}
 use Rattle.expr.specs.Results.{own_answer}
 use Rattle.expr.proofs.Scans.{never_refused, step}
-use Rattle.expr.proofs.FieldScan.{FieldsLeft, fields_start, fields_end, fields_over, fields_step}
+use Rattle.expr.proofs.FieldScan.{fields_start, fields_end, fields_over, fields_step}
 use Rattle.expr.proofs.operations.count_fields.Goals as goal
 use Rattle.expr.proofs.operations.count_fields.Goals.{then-count-own, else-count-own}
 

@@ -1,9 +1,5 @@
 -- `expr::is_test_fragment` meets its contract: form decides, and then the scan.
-use mathlib.Core.Path.{ap, sym, ◌∙◌}
-use borrow.Author.Rules.{rules}
-use Rattle.expr.specs.Answers.{ok, map_answer}
-use Rattle.expr.specs.Operations.{is_test_fragment}
-use Rattle.expr.proofs.Scans.{formed_good, formed_refused}
+use Rattle.expr.proofs.Scans.{formed_good}
 use Rattle.expr.proofs.operations.is_test_fragment.Goals as goal
 
 pub all_fragment-requires : goal.all_fragment-requires

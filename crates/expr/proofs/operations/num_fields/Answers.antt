@@ -1,9 +1,5 @@
 -- `expr::num_fields` meets its contract: form decides, and then the scan.
-use mathlib.Core.Path.{ap, sym, ◌∙◌}
-use borrow.Author.Rules.{rules}
-use Rattle.expr.specs.Answers.{and_then}
-use Rattle.expr.specs.Operations.{num_fields}
-use Rattle.expr.proofs.Scans.{formed_good, formed_refused}
+use Rattle.expr.proofs.Scans.{formed_good}
 use Rattle.expr.proofs.operations.num_fields.Goals as goal
 
 pub count_fields-requires : goal.count_fields-requires

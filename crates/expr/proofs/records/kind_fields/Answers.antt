@@ -1,9 +1,5 @@
 -- `expr::kind_fields` meets its contract, by ranges of kinds.
-use mathlib.Core.Path.{◌≡◌, refl}
-use mathlib.Core.Logic.{⊎_elim, inl, inr}
 use native.Mathlib.Omega.{arith}
-use Rattle.expr.specs.Results.{kind_map}
-use Rattle.expr.proofs.Finite.{same_in}
 use Rattle.expr.proofs.ForeignBits.{map_past}
 use Rattle.expr.proofs.records.kind_fields.Goals as goal
 

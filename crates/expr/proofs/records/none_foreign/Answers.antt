@@ -1,6 +1,5 @@
 -- `expr::none_foreign` meets its contract, by the test over all kinds and maps.
 use native.Mathlib.Omega.{arith}
-use borrow.Author.Rules.{rules}
 use Rattle.expr.proofs.ForeignBits.{covered_is}
 use Rattle.expr.proofs.records.none_foreign.Goals as goal
 

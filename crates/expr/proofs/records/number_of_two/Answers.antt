@@ -1,10 +1,6 @@
 -- `expr::number_of_two` meets its contract: a byte is below 256, so the sum fits.
-use Prim.Native.Nat.{◌+◌, ◌*◌, ◌^◌, ◌<◌}
-use native.Mathlib.Omega.{arith}
-use borrow.Author.Tests.{not-true, not-false}
-use borrow.Author.Rules.{rules}
-use lib.ListN.{get_or}
-use Rattle.expr.proofs.Numbers.{two_bytes, number_absent, number_lacking, number_zero, number_value}
+use borrow.Author.Tests.{not-false}
+use Rattle.expr.proofs.Numbers.{number_lacking}
 use Rattle.expr.proofs.records.number_of_two.Goals as goal
 
 pub returns-then-s-at-lt2 : goal.returns-then-s-at-lt2

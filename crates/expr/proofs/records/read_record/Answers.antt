@@ -1,23 +1,8 @@
 -- `expr::read_record` meets its contract: each return is a chain of the stages that were read before it.
-use mathlib.Core.Path.{◌≡◌, refl, sym, subst, ◌∙◌}
-use mathlib.Core.List.{List}
-use Prim.Native.Nat.{ℕ}
+use mathlib.Core.Path.{refl, sym, subst, ◌∙◌}
 use native.Mathlib.Omega.{arith}
-use borrow.Author.Rules.{rules}
-use lib.ListN.{drop}
-use Rattle.literals.specs.Bits.{bit_at}
-use Rattle.literals.specs.Reading.{Read}
-use Rattle.literals.specs.declared.LiteralRead.TheVariants as literal
-use Rattle.expr.specs.Records.{Record, read_record}
 use Rattle.expr.specs.Results.{KindFound, RangeFound, PatternFound, LiteralField}
-use Rattle.expr.specs.declared.records.Kind.{Kind}
-use Rattle.expr.specs.declared.records.KindRead.TheVariants as kind
-use Rattle.expr.specs.declared.records.Range.{Range}
-use Rattle.expr.specs.declared.records.RangeRead.TheVariants as range
-use Rattle.expr.specs.declared.records.Chosen.{Chosen}
-use Rattle.expr.specs.declared.records.PatternRead.TheVariants as chosen
-use Rattle.expr.proofs.Stages.{after_kind, after_range, after_pattern, record_stages}
-use Rattle.expr.proofs.BareRecord.{bare_found}
+use Rattle.expr.proofs.Stages.{record_stages}
 use Rattle.expr.proofs.Steps.{faulted, onward}
 use Rattle.expr.proofs.records.read_record.Goals as goal
 

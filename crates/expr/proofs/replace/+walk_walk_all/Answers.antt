@@ -1,15 +1,8 @@
-use borrow.Author.Rules.{rules}
 use native.Mathlib.Omega.{arith}
-use mathlib.Core.Path.{◌≡◌, sym}
-use mathlib.Core.Bool.{Bool, false}
-use Prim.Native.Nat.{ℕ}
-use Rattle.expr.specs.Replaced.{Ready}
 use Rattle.expr.proofs.Arities.{arity_small}
-use Rattle.expr.proofs.Replacing.{free_var, free_first, free_others}
-use Rattle.expr.proofs.HeadOf.{Headed, not_refused, headed}
-use Rattle.expr.proofs.SwapSteps.{some_left, is_var, is_first, is_others, var_room, var_small, var_done, own_long, own_room, own_small, all_ready, all_done}
-use mathlib.Core.Path.{◌≡◌}
-use Rattle.expr.proofs.SwapRest.{first_ready, used_inside, count_small, level_small, Due, all_due, none_due, due_again}
+use Rattle.expr.proofs.HeadOf.{not_refused, headed}
+use Rattle.expr.proofs.SwapSteps.{some_left, is_var, is_first, is_others, var_room, var_done, own_room, all_ready, all_done}
+use Rattle.expr.proofs.SwapRest.{first_ready, used_inside, count_small, level_small, all_due, none_due, due_again}
 use Rattle.expr.proofs.replace.+walk_walk_all.Goals as goal
 
 pub walk-returns-in-Refused : goal.walk-returns-in-Refused

@@ -1,12 +1,8 @@
 -- `replace::copy` meets its contract.
-use mathlib.Core.Path.{◌≡◌, refl, ap, ◌∙◌}
-use Prim.Native.Nat.{◌+◌, ◌-◌, ◌≤◌}
 use native.Mathlib.Numerals.{add-one}
 use native.Mathlib.Omega.{arith}
-use borrow.Author.Tests.{not-true, not-false}
-use lib.ListN.{length, length-set}
-use lib.Seq.{paste, paste-zero, paste-suc}
-use Rattle.expr.proofs.Copied.{pasted_is}
+use lib.ListN.{length-set}
+use lib.Seq.{paste-suc}
 use Rattle.expr.proofs.replace.copy.Goals as goal
 
 pub loop-i-preserved : goal.loop-i-preserved

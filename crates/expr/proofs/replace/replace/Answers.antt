@@ -1,8 +1,6 @@
 -- `replace::replace` meets its contract.
 use native.Mathlib.Omega.{arith}
-use borrow.Author.Rules.{rules}
-use Prim.Native.Nat.{ℕ}
-use Rattle.expr.proofs.SubstituteSteps.{Both, by_ready, measure_ready, too_many, too_deep, no_room, write_ready, written}
+use Rattle.expr.proofs.SubstituteSteps.{by_ready, measure_ready, too_many, too_deep, no_room, write_ready, written}
 use Rattle.expr.proofs.replace.replace.Goals as goal
 
 pub walk-b-requires : goal.walk-b-requires

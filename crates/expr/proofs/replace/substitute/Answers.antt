@@ -1,8 +1,7 @@
 -- `replace::substitute` meets its contract.
 use native.Mathlib.Omega.{arith}
-use borrow.Author.Rules.{rules}
 use Rattle.expr.proofs.Refusals.{decode_low}
-use Rattle.expr.proofs.SubstituteSteps.{form_decodes, form_refuses, term_refused, other_refused}
+use Rattle.expr.proofs.SubstituteSteps.{form_decodes, form_refuses, other_refused}
 use Rattle.expr.proofs.replace.substitute.Goals as goal
 
 pub overflow_add-raised : goal.overflow_add-raised

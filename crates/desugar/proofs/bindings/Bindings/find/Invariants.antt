@@ -1,0 +1,13 @@
+-- `bindings::Bindings::find` meets its contract.
+use Prim.Native.Nat.{◌≤◌}
+use Rattle.expr.specs.Terms.{Core}
+use Rattle.desugar.specs.Bindings.{Env}
+use Rattle.desugar.specs.BindingWords.{AnyBound, Bound}
+use Rattle.desugar.proofs.Frames.{Passed}
+use Rattle.desugar.proofs.bindings.Bindings.find.Given as goal
+
+abbrev pub invariant-loop-last : goal.invariant-loop-last
+invariant-loop-last l = (l.last ≤ l.initial.last) × AnyBound l.work l.last × ((env : Env Core) → Bound l.work l.initial.last env → Passed l.work l.kind l.name env l.last)
+
+abbrev pub decreases-loop-last : goal.decreases-loop-last
+decreases-loop-last l = l.last
