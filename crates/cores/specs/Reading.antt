@@ -1,5 +1,5 @@
 -- Reading core bytes back (document 02, change 1).
-use mathlib.Core.{Bool.Bool, Bool.true, Bool.false, Bool.cond, Bool.◌&&◌, List.List, List.[], List.◌∷◌}
+use mathlib.Core.{Bool.Bool, Bool.false, Bool.cond, Bool.◌&&◌, List.List, List.[], List.◌∷◌}
 use Rattle.std.specs.Prelude.{ℕ, zero, suc, ◌+◌, ◌*◌, ◌≤◌}
 use lib.{Dec.leb, Dec.eqb, ListN.get_or}
 use Rattle.literals.specs.{Bits.bit_at, Reading.Read, Reading.got, Reading.fault, Reading.Reads}
