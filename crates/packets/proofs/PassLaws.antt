@@ -10,7 +10,7 @@ use lib.ListN.{length, drop, get_or, length-drop}
 use lib.Seq.{drop-drop}
 use Rattle.literals.proofs.Logic.{and_both, and_left, and_right, or_right}
 use Rattle.expr.specs.Answers.{Answer, ok, refuse, and_then, map_answer, need}
-use Rattle.expr.specs.Terms.{Atom, Zero, One, Top, Dup, End, Assign, Test, Op1, Complement, Star, LtlNext, Op2, Union, Intersect, Xor, Difference, Sequence, LtlUntil, Core, one, two, test_kind, atom_kind, op1_kind, op2_kind}
+use Rattle.expr.specs.Terms.{Atom, Zero, One, Top, Dup, End, Assign, Test, Op1, Complement, Star, LtlNext, Op2, Union, Intersect, Xor, Difference, Sequence, LtlUntil, Core, test_kind, atom_kind, op1_kind, op2_kind}
 use Rattle.expr.specs.Records.{Record}
 use Rattle.expr.specs.Results.{arity_of, fields_answer}
 use Rattle.expr.proofs.Arities.{arity_in, arity_small}
