@@ -9,7 +9,7 @@ use Rattle.expr.specs.Answers.{Answer, and_then, ok}
 use Rattle.expr.specs.Form.{Node, node0, node1, node2, node3, node_of, decode, encode, max_depth}
 use Rattle.expr.specs.Replaced.{encode_all}
 use Rattle.expr.specs.Results.{record_of, arity_of}
-use Rattle.expr.specs.Terms.{Expr, records, size}
+use Rattle.expr.specs.Terms.{Expr, records}
 use Rattle.expr.specs.declared.records.Head.{Head}
 use Rattle.expr.proofs.FormTheorem.{decode_only}
 use Rattle.expr.proofs.HeadOf.{Headed}

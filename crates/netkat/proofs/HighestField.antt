@@ -20,8 +20,8 @@ use Rattle.netkat.proofs.Inside.{by_part, walk_inside}
 -- ## Places
 
 -- a subterm begins at one of the term's records
-inside_placed : {sc' sc : Scope} {e' e : Expr} {at' at : ℕ} → Inside sc' e' at' sc e at → (at ≤ at') × (at' < at + records e)
-inside_placed {sc'} {sc} {e'} here = (omega arith, omega (arith, records_is e'))
+inside_placed : {sc' : Scope} {e' : Expr} {at' : ℕ} {sc : Scope} {e : Expr} {at : ℕ} → Inside sc' e' at' sc e at → (at ≤ at') × (at' < at + records e)
+inside_placed {sc'} {e'} here = (omega arith, omega (arith, records_is e'))
 inside_placed (unary i) = let h = inside_placed i in (omega (arith, h.0), omega (arith, h.1))
 inside_placed (first i) = let h = inside_placed i in (omega (arith, h.0), omega (arith, h.1))
 inside_placed (second i) = let h = inside_placed i in (omega (arith, h.0), omega (arith, h.1))

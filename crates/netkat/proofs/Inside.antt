@@ -8,7 +8,7 @@ use Prim.Native.Nat.{ℕ, zero, suc, ◌+◌, ◌-◌, ◌<◌}
 use native.Mathlib.Omega.{arith}
 use native.Mathlib.Decide.{dec_lt}
 use lib.ListN.{length, length-append}
-use Rattle.expr.specs.Terms.{Binary, Expr, IfThenElse, Let, LetBitRange, Name, Op1, Op2, Plain, Ranged, TestNegation, Unary, Var, records}
+use Rattle.expr.specs.Terms.{Binary, Expr, IfThenElse, Let, LetBitRange, Plain, Ranged, TestNegation, Unary, Var, records}
 use Rattle.desugar.specs.Bindings.{range, variable}
 use Rattle.netkat.specs.Claims.{Inside, PointAt, body, condition, definition, else_branch, first, here, negated, range_body, second, then_branch, unary}
 use Rattle.netkat.specs.Points.{Point, Scope, definitions, point, walk}
@@ -150,7 +150,7 @@ with_more ps qs rs f m = by_part ps qs m (λ h. Memᴰ.append_left rs h) (λ h. 
 
 -- what decides desugaring at a point inside a term, its definitions around and its own records, are points of the term or of the
 -- definitions around the term
-pub inside_points : {sc' sc : Scope} {e' e : Expr} {at' at : ℕ} → Inside sc' e' at' sc e at → (p : Point)
+pub inside_points : {sc' : Scope} {e' : Expr} {at' : ℕ} {sc : Scope} {e : Expr} {at : ℕ} → Inside sc' e' at' sc e at → (p : Point)
     → Memᴰ p (definitions sc' ++ walk sc' e' at') → Memᴰ p (definitions sc ++ walk sc e at)
 inside_points here p m = m
 inside_points (unary {sc} {o} {e} {at} i) p m =

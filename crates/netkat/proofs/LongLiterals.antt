@@ -9,7 +9,7 @@ use Rattle.literals.specs.Bits.{Bits}
 use Rattle.literals.specs.Patterns.{IpRange}
 use Rattle.literals.proofs.Logic.{eqb_is}
 use Rattle.expr.specs.Answers.{and_then, ok}
-use Rattle.expr.specs.Form.{Fits, RecordFits, Within, decode, encode, name_record, ranged_record}
+use Rattle.expr.specs.Form.{Fits, RecordFits, decode, encode, name_record, ranged_record}
 use Rattle.expr.specs.Terms.{Alias, Direct, Expr, LetBitRange, Matches, Name, Ranged, Use, Where}
 use Rattle.expr.proofs.FormTheorem.{decode_encode}
 use Rattle.desugar.specs.Rules.{pattern_rule, range_rule}

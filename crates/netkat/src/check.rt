@@ -131,7 +131,7 @@ fn sort_kind(test: bool) -> u32
 
 // The term that begins at the byte `at`, of at most `left` levels, whose first record has the index `place`: under the bindings around
 // it, which lie below `top`. It takes the whole bytes and an index, which is faster than a new slice for each call.
-#[cycle(binary_check_with_env_if_then_else_let_bit_range_let_variable_test_negation_unary)]
+#[cycle(walk)]
 fn check_with_env(
     s: &[u8],
     at: usize,
@@ -176,7 +176,7 @@ fn check_with_env(
 }
 
 // Complement, Star, LtlNext.
-#[cycle(binary_check_with_env_if_then_else_let_bit_range_let_variable_test_negation_unary)]
+#[cycle(walk)]
 fn unary(
     kind: u8,
     s: &[u8],
@@ -203,7 +203,7 @@ fn unary(
 }
 
 // TestNegation.
-#[cycle(binary_check_with_env_if_then_else_let_bit_range_let_variable_test_negation_unary)]
+#[cycle(walk)]
 fn test_negation(
     s: &[u8],
     from: usize,
@@ -228,7 +228,7 @@ fn test_negation(
 }
 
 // The operators with two operands.
-#[cycle(binary_check_with_env_if_then_else_let_bit_range_let_variable_test_negation_unary)]
+#[cycle(walk)]
 fn binary(
     kind: u8,
     s: &[u8],
@@ -260,7 +260,7 @@ fn binary(
 }
 
 // IfThenElse. A condition that is no test is refused when its branches have been judged.
-#[cycle(binary_check_with_env_if_then_else_let_bit_range_let_variable_test_negation_unary)]
+#[cycle(walk)]
 fn if_then_else(
     s: &[u8],
     from: usize,
@@ -299,7 +299,7 @@ fn if_then_else(
 
 // Let: whether the definition is a test stays below its frame while the body is judged. Here and in `let_bit_range` the body's answer is
 // taken apart and built again: where they end in the call, every answer of the walk goes through memory, which is slower.
-#[cycle(binary_check_with_env_if_then_else_let_bit_range_let_variable_test_negation_unary)]
+#[cycle(walk)]
 fn let_variable(
     name: u32,
     s: &[u8],
@@ -328,7 +328,7 @@ fn let_variable(
 }
 
 // LetBitRange. The range is not judged here.
-#[cycle(binary_check_with_env_if_then_else_let_bit_range_let_variable_test_negation_unary)]
+#[cycle(walk)]
 fn let_bit_range(
     name: u32,
     start: u32,
