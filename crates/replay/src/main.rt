@@ -1,11 +1,13 @@
 // Runs the cases of the file `cases` through the exported functions and `literals::compare`, and compares each answer in full: number, place,
 // values, every byte of the answer buffer. Prints the index of each case that differs, then how many agree and how many there are.
 // tools/cases.py makes the file and says what a case is.
+#![tactic(auto)]
+
 ghost use Rattle.std.specs.Prelude.{◌+◌, ◌≤◌, ◌<◌, length};
 
-use libc::STDOUT_FILENO;
 use literals::Order;
 use netkat::Answer;
+use std::{fs, io};
 
 // The longest answer buffer of a case, and what each of its bytes is before a call.
 const ROOM: usize = 9216;
@@ -148,7 +150,7 @@ fn holds(out: &[u8], res: &[u8]) -> bool {
         return false;
     }
     let marks = [MARK; 9216];
-    check::same(&out[0..n], res) && check::same(&out[n..], &marks[n..])
+    &out[0..n] == res && &out[n..] == &marks[n..]
 }
 
 // Whether a Substitute agrees: its answer, and every byte of a buffer that was marked before.
@@ -503,14 +505,12 @@ fn run(bytes: &[u8], at: usize) -> Ran
     Ran { next: end, ok }
 }
 
-fn differs(case: u64) {
-    io::write_all(STDOUT_FILENO, b"differs: case ");
-    io::print_decimal(STDOUT_FILENO, case);
-    io::write_all(STDOUT_FILENO, b"\n");
+fn differs(rt: &impl Print, case: u64) -> io::Result<()> {
+    println!(rt; "differs: case {case}")
 }
 
 // How many of the cases agree, and how many there are.
-fn run_all(bytes: &[u8]) -> Tally {
+fn run_all(rt: &impl Print, bytes: &[u8]) -> io::Result<Tally> {
     let mut at = 0;
     let mut agreed: u64 = 0;
     let mut cases: u64 = 0;
@@ -519,31 +519,20 @@ fn run_all(bytes: &[u8]) -> Tally {
         if ran.ok {
             agreed += 1;
         } else {
-            differs(cases);
+            differs(rt, cases)?;
         }
         cases += 1;
         at = ran.next;
     }
-    Tally { agreed, cases }
+    Ok(Tally { agreed, cases })
 }
 
-fn report(agreed: u64, cases: u64) {
-    io::print_decimal(STDOUT_FILENO, agreed);
-    io::write_all(STDOUT_FILENO, b" of ");
-    io::print_decimal(STDOUT_FILENO, cases);
-    io::write_all(STDOUT_FILENO, b" cases agree\n");
+fn report(rt: &impl Print, agreed: u64, cases: u64) -> io::Result<()> {
+    println!(rt; "{agreed} of {cases} cases agree")
 }
 
-fn main() {
-    let path = b"cases";
-    let fd = os::open_read(path);
-    if fd < 0 {
-        os::fail(path);
-        return;
-    }
-    let mut bytes = [0; 393216];
-    let n = io::read_full(fd, &mut bytes);
-    libc::close(fd);
-    let tally = run_all(&bytes[..n]);
-    report(tally.agreed, tally.cases);
+fn main(rt: HostRuntime) -> io::Result<()> {
+    let bytes = fs::read(&rt, "cases")?;
+    let tally = run_all(&rt, &bytes)?;
+    report(&rt, tally.agreed, tally.cases)
 }
