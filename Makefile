@@ -24,12 +24,14 @@ version := $(shell sed -n 's/^.define NETKAT_VERSION_[A-Z]* \([0-9]*\)$$/\1/p' i
 .PHONY: lib install uninstall test stack
 lib: $(lib)
 
-$(built): crates.txt $(shell find crates -type f)
+# The static library is the crate netkat_c, over the library netkat; what rt makes lies in out/.
+$(built): crates.txt $(shell find crates -name out -prune -o -type f -print)
 	@command -v rt > /dev/null || { \
 	    echo 'libnetkat.a is missing or older than crates/, and the Rattle kit (rt), which builds it, is not here.' >&2; \
 	    echo 'With an archive from elsewhere: make ... NETKAT_LIB=path/to/libnetkat.a' >&2; exit 1; }
-	rt staticlib netkat
-	@touch $@
+	cd crates/netkat_c && rt lib
+	@mkdir -p $(@D)
+	cp crates/netkat_c/out/libnetkat_c.a $@
 
 install: $(lib)
 	install -d '$(DESTDIR)$(INCLUDEDIR)' '$(DESTDIR)$(LIBDIR)' '$(DESTDIR)$(PKGCONFIGDIR)' '$(DESTDIR)$(DOCDIR)'

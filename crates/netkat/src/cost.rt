@@ -7,8 +7,7 @@ use costs::Costed;
 
 // The cost of a pattern on the fields from `start` up to `end`, in 64 bits, the lower half first. The pattern is given by its number,
 // its prefix, and its literals, each as bytes and a length in bits.
-#[unsafe(no_mangle)]
-pub extern "C" fn netkat_cost(
+pub fn netkat_cost(
     start: u32,
     end: u32,
     pattern: u32,

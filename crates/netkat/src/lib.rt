@@ -25,8 +25,7 @@ pub struct Answer {
 }
 
 // The fields of alias[sub_start..sub_end], of an alias over the fields from alias_start up to alias_end.
-#[unsafe(no_mangle)]
-pub extern "C" fn netkat_compute_subrange(
+pub fn netkat_compute_subrange(
     alias_start: u32,
     alias_end: u32,
     sub_start: u32,
@@ -51,8 +50,7 @@ pub extern "C" fn netkat_compute_subrange(
 }
 
 // The version of this library.
-#[unsafe(no_mangle)]
-pub extern "C" fn netkat_version() -> u32
+pub fn netkat_version() -> u32
     ensures { result ≡ version }
 {
     1280

@@ -9,8 +9,7 @@ use expr::operations::{FieldCount, Fragment};
 use expr::replace::Substituted;
 
 // Form and the rules 11 to 23: the first value is 1 if the term is a test, and else 0.
-#[unsafe(no_mangle)]
-pub extern "C" fn netkat_check(term: &[u8]) -> Answer
+pub fn netkat_check(term: &[u8]) -> Answer
     ensures { Answers (Call.Check term.now) [] [] result }
 {
     match crate::check::check(term) {
@@ -20,8 +19,7 @@ pub extern "C" fn netkat_check(term: &[u8]) -> Answer
 }
 
 // Whether a term is in the test fragment: the first value is 1 if it is, and else 0.
-#[unsafe(no_mangle)]
-pub extern "C" fn netkat_is_test_fragment(term: &[u8]) -> Answer
+pub fn netkat_is_test_fragment(term: &[u8]) -> Answer
     ensures { Answers (Call.TestFragment term.now) [] [] result }
 {
     match expr::operations::is_test_fragment(term) {
@@ -32,8 +30,7 @@ pub extern "C" fn netkat_is_test_fragment(term: &[u8]) -> Answer
 
 // The field count of a term, as the first value: the greatest of field + 1 of an Assign or Test and the end of a direct range or of a
 // LetBitRange; 0 where there is none.
-#[unsafe(no_mangle)]
-pub extern "C" fn netkat_num_fields(term: &[u8]) -> Answer
+pub fn netkat_num_fields(term: &[u8]) -> Answer
     ensures { Answers (Call.FieldCount term.now) [] [] result }
 {
     match expr::operations::num_fields(term) {
@@ -44,8 +41,7 @@ pub extern "C" fn netkat_num_fields(term: &[u8]) -> Answer
 
 // The term with each occurrence of the variable `name` replaced that does not lie in the body of a Let or LetBitRange of that name, to the
 // front of the answer buffer: the first value is its length.
-#[unsafe(no_mangle)]
-pub extern "C" fn netkat_substitute(
+pub fn netkat_substitute(
     term: &[u8],
     name: u16,
     replacement: &[u8],
@@ -61,8 +57,7 @@ pub extern "C" fn netkat_substitute(
 
 // The core of a term, to the front of the answer buffer: the values are its length and the drawn total. Of work memory only its length is
 // promised.
-#[unsafe(no_mangle)]
-pub extern "C" fn netkat_desugar(
+pub fn netkat_desugar(
     term: &[u8],
     allowance: u32,
     work: &mut [u32],

@@ -5,8 +5,7 @@ use crate::Answer;
 use cores::CoreRead;
 
 // The records of a core, to the front of the list, three numbers each: the values are the record count and the field count.
-#[unsafe(no_mangle)]
-pub extern "C" fn netkat_read_core(core: &[u8], records: &mut [u32]) -> Answer
+pub fn netkat_read_core(core: &[u8], records: &mut [u32]) -> Answer
     ensures { Answers (Call.ReadCore core.now) records.old records.new result }
 {
     match cores::read_core(core, records) {

@@ -6,8 +6,7 @@ use crate::Answer;
 use packets::Ran;
 
 // Which packets pass a core that is a test: bit i of the 64-bit answer, its lower half first, says so of packet i. The record list is scratch.
-#[unsafe(no_mangle)]
-pub extern "C" fn netkat_run_packets(
+pub fn netkat_run_packets(
     core: &[u8],
     records: &mut [u32],
     packets: &[u8],
