@@ -1,6 +1,7 @@
 #!/bin/bash
-# Runs target/bin/probe on stored terms and compares all that it prints with the stored answers: the lines of oracle/vectors/program.txt, and
-# the cases at the end. Prints what differs, and last `N passed, M failed`; ends with 1 if a case failed.
+# Runs crates/probe/out/probe, which `rt ci` and `rt run` leave there, on stored terms and compares all that it prints with the stored
+# answers: the lines of oracle/vectors/program.txt, and the cases at the end. Prints what differs, and last `N passed, M failed`; ends with
+# 1 if a case failed.
 set -u
 cd "$(dirname "$0")/.." || exit 1
 passed=0 failed=0
@@ -8,7 +9,7 @@ passed=0 failed=0
 # The name of a case and what is to be printed. The term is standard input.
 prints() {
     local got
-    got=$(target/bin/probe; echo "status $?")
+    got=$(crates/probe/out/probe; echo "status $?")
     if [ "$got" = "$2"$'\n'"status 0" ]; then
         passed=$((passed + 1))
     else
