@@ -1,6 +1,6 @@
 -- No more bits are looked at than the width, which has 32 bits.
 use Rattle.std.proofs.Common.{arith}
-use lib.{ListN.take}
+use Rattle.std.proofs.Common.{take}
 use Rattle.literals.specs.Bits.{unpack}
 use Rattle.literals.proofs.Comparing.{looked_within}
 use Rattle.replay.proofs.compared.Goals as goal
