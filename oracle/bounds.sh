@@ -9,8 +9,11 @@ SEED=${SEED:-1} COUNT=${COUNT:-100000}
 
 lines=$target/bounds
 rm -rf "$lines" && mkdir -p "$lines" || exit 2
-(cd .. && rt check replay) > "$lines/check" 2>&1 || { cat "$lines/check"; exit 2; }
-replay=$(cd ../target/bin && pwd)/replay || exit 2
+# rt run leaves the program there; the run itself finds no cases, and says so
+replay=$(cd ../crates/replay && pwd)/out/replay || exit 2
+rm -f "$replay"
+(cd ../crates/replay && rt run) > "$lines/check" 2>&1
+[ -x "$replay" ] || { cat "$lines/check"; exit 2; }
 cargo build --release --offline --quiet --target-dir "$target" || exit 2
 oracle=$target/release/oracle
 grep -v '^#' vectors/bounds.txt > "$lines/all.txt" && "$oracle" bounds "$SEED" "$COUNT" >> "$lines/all.txt" || exit 2
@@ -18,7 +21,7 @@ differences=0
 "$oracle" replay vectors/bounds.txt || differences=1
 python3 second.py "$lines/all.txt" || differences=1
 
-# replay reads the file `cases` of the folder that it runs in, up to 393,216 bytes
+# replay reads the file `cases` of the folder that it runs in
 split -l 2500 "$lines/all.txt" "$lines/part."
 for part in "$lines"/part.*; do
     python3 ../tools/cases.py "$part" > "$lines/cases" || exit 2

@@ -18,7 +18,7 @@ if [ -n "${NETKAT_LIB_DIR:-}" ]; then
     reason=
 elif [ ! -f "$archive" ]; then
     reason="target/staticlib/libnetkat.a is not there"
-elif [ -n "$(find ../crates ../crates.txt -type f -newer "$archive" | head -n 1)" ]; then
+elif [ -n "$(find ../crates ../crates.txt -name out -prune -o -type f -newer "$archive" -print | head -n 1)" ]; then
     reason="target/staticlib/libnetkat.a is older than a file of crates/ or crates.txt"
 else
     reason=
@@ -26,10 +26,10 @@ fi
 if [ -n "$reason" ]; then
     command -v rt > /dev/null || { echo "$(basename "$0"): $reason, and there is no rt to build it" >&2; exit 2; }
     echo "$(basename "$0"): $reason: rt builds it, which takes some minutes if its proofs are not at hand" >&2
-    mkdir -p ../target
+    mkdir -p ../target/staticlib
     started=$(mktemp ../target/started.XXXXXX) || exit 2
-    (cd .. && rt staticlib netkat) || { rm -f "$started"; exit 2; }
-    # rt may leave an archive alone that comes out the same
-    touch -r "$started" "$archive" && rm -f "$started" || exit 2
+    (cd ../crates/netkat_c && rt lib) || { rm -f "$started"; exit 2; }
+    # it is as new as its sources were when rt began
+    cp ../crates/netkat_c/out/libnetkat_c.a "$archive" && touch -r "$started" "$archive" && rm -f "$started" || exit 2
 fi
 target=../target/oracle

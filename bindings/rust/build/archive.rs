@@ -1,7 +1,7 @@
 //! The folder that holds libnetkat.a.
 //!
 //! It is NETKAT_LIB_DIR if that is set, and the archive in it is taken as it is. Else it is target/staticlib of the project; there, an archive
-//! that is missing, or older than a source of the project, is built by `rt staticlib netkat`.
+//! that is missing, or older than a source of the project, is built: `rt lib`, in the folder of the crate `netkat_c`, makes it there.
 //!
 //! The project's oracle uses this file too.
 
@@ -14,8 +14,9 @@ use std::time::SystemTime;
 
 const ARCHIVE: &str = "libnetkat.a";
 
-/// What the archive is built from, in the project.
-const SOURCES: [&str; 2] = ["crates", "crates.txt"];
+/// The crate of the C functions, whose archive it is, and what `rt lib` makes in that crate's folder.
+const CRATE: &str = "crates/netkat_c";
+const MADE: &str = "out/libnetkat_c.a";
 
 /// The folder, for a project at `root`; or a message that says what to do.
 pub fn folder(root: &Path) -> Result<PathBuf, String> {
@@ -38,28 +39,43 @@ fn given_folder(folder: PathBuf) -> Result<PathBuf, String> {
 }
 
 fn project_folder(root: &Path) -> Result<PathBuf, String> {
-    if !SOURCES.iter().all(|source| root.join(source).exists()) {
+    if !["crates", "crates.txt"].iter().all(|source| root.join(source).exists()) {
         return Err(format!(
             "the package is not in its project, which builds {ARCHIVE}: set NETKAT_LIB_DIR to the folder that holds it"
         ));
     }
-    for source in SOURCES {
-        println!("cargo:rerun-if-changed={}", root.join(source).display());
+    let sources = sources(root).map_err(|error| format!("the project's sources could not be looked at: {error}"))?;
+    for source in &sources {
+        println!("cargo:rerun-if-changed={}", source.display());
     }
     let folder = root.join("target/staticlib");
-    if let Some(reason) = reason_to_build(root, &folder.join(ARCHIVE))? {
+    if let Some(reason) = reason_to_build(sources, &folder.join(ARCHIVE))? {
         build(root, &folder.join(ARCHIVE), &reason)?;
     }
     Ok(folder)
 }
 
+/// What the archive is built from, in the project: the list of crates, and what stands in their folders beside `out`, where rt keeps what it
+/// makes.
+fn sources(root: &Path) -> io::Result<Vec<PathBuf>> {
+    let mut sources = vec![root.join("crates.txt")];
+    for folder in fs::read_dir(root.join("crates"))? {
+        for entry in fs::read_dir(folder?.path())? {
+            let entry = entry?;
+            if entry.file_name() != "out" {
+                sources.push(entry.path());
+            }
+        }
+    }
+    Ok(sources)
+}
+
 /// Why the archive must be built, if it must.
-fn reason_to_build(root: &Path, archive: &Path) -> Result<Option<String>, String> {
+fn reason_to_build(sources: Vec<PathBuf>, archive: &Path) -> Result<Option<String>, String> {
     let Ok(built) = modified(archive) else {
         return Ok(Some(format!("{} is not there", archive.display())));
     };
-    let newer = newer_than(built, SOURCES.iter().map(|source| root.join(source)).collect())
-        .map_err(|error| format!("the project's sources could not be looked at: {error}"))?;
+    let newer = newer_than(built, sources).map_err(|error| format!("the project's sources could not be looked at: {error}"))?;
     Ok(newer.map(|source| format!("{} is older than {}", archive.display(), source.display())))
 }
 
@@ -83,7 +99,7 @@ fn modified(path: &Path) -> io::Result<SystemTime> {
 
 fn build(root: &Path, archive: &Path, reason: &str) -> Result<(), String> {
     let started = SystemTime::now();
-    let child = Command::new("rt").args(["staticlib", "netkat"]).current_dir(root).spawn();
+    let child = Command::new("rt").arg("lib").current_dir(root.join(CRATE)).spawn();
     let mut child = child.map_err(|error| match error.kind() {
         ErrorKind::NotFound => format!(
             "{reason}, and `rt`, which builds it, is not on the path. \
@@ -91,14 +107,16 @@ fn build(root: &Path, archive: &Path, reason: &str) -> Result<(), String> {
         ),
         _ => format!("{reason}, and `rt`, which builds it, could not be started: {error}"),
     })?;
-    announce(&format!("{reason}: `rt staticlib netkat` builds it, which takes some minutes if its proofs are not at hand"));
-    let status = child.wait().map_err(|error| format!("`rt staticlib netkat` could not be waited for: {error}"))?;
+    announce(&format!("{reason}: `rt lib` builds it, which takes some minutes if its proofs are not at hand"));
+    let status = child.wait().map_err(|error| format!("`rt lib` could not be waited for: {error}"))?;
     if !status.success() {
-        return Err(format!("`rt staticlib netkat` failed in {}: {status}", root.display()));
+        return Err(format!("`rt lib` failed in {}: {status}", root.join(CRATE).display()));
     }
-    // An archive that comes out the same may be left alone. It is as new as its sources were when the command began.
-    let touched = File::options().write(true).open(archive).and_then(|file| file.set_modified(started));
-    touched.map_err(|error| format!("`rt staticlib netkat` ended well, but {} could not be opened: {error}", archive.display()))
+    // The archive is as new as its sources were when the command began.
+    let copied =
+        archive.parent().map_or(Ok(()), fs::create_dir_all).and_then(|()| fs::copy(root.join(CRATE).join(MADE), archive));
+    let touched = copied.and_then(|_| File::options().write(true).open(archive)).and_then(|file| file.set_modified(started));
+    touched.map_err(|error| format!("`rt lib` ended well, but its archive could not be put at {}: {error}", archive.display()))
 }
 
 /// A warning of a build script is shown when the script has ended, so a terminal is told as well.
