@@ -63,6 +63,7 @@ pub fn literal_bit(bytes: &[u8], bits: usize, i: usize) -> bool
 }
 
 // The literal whose length byte is at `at`.
+#[tactic(auto, using(crate::proofs::Values::read_zero, crate::proofs::Values::read_long, crate::proofs::Values::read_lacking, crate::proofs::Values::read_spare, crate::proofs::Values::read_got, crate::proofs::Values::last_place))]
 pub fn read_literal(s: &[u8], at: usize) -> LiteralRead
     requires { at ≤ length s.now }
     ensures { LiteralFound s.now at result }
@@ -96,6 +97,7 @@ pub fn read_literal(s: &[u8], at: usize) -> LiteralRead
 }
 
 // Why the front of some bytes is no literal of so many bits that a host may lend: the refusal's number, or 0 where it is one.
+#[tactic(auto, using(crate::proofs::Values::lent_long, crate::proofs::Values::lent_lacking, crate::proofs::Values::lent_got))]
 pub fn lent_refusal(bytes: &[u8], bits: u32) -> u8
     ensures { lent_answer bytes.now bits result ≡ lent bits bytes.now }
 {

@@ -13,18 +13,18 @@ use Rattle.costs.proofs.match_cost.Goals as goal
 pub overflow_sub-n : goal.overflow_sub-n
 overflow_sub-n c = let a = c.args in (range_kept (Direct a.start a.end) (Matches (let a = c.args in
     pattern_with a.pattern a.number (take a.a_bits (unpack a.a.now)) (take a.b_bits (unpack a.b.now)))) a.start a.end (let a = c.args in cost_kept (let a = c.args in
-    pattern_with a.pattern a.number (take a.a_bits (unpack a.a.now)) (take a.b_bits (unpack a.b.now))) a.start a.end c.if-rule-ne0.false (c.range_rule-rule.ensures 0))).0
+    pattern_with a.pattern a.number (take a.a_bits (unpack a.a.now)) (take a.b_bits (unpack a.b.now))) a.start a.end (omega arith) (c.range_rule-rule.ensures 0))).0
 
 pub use_size-requires : goal.use_size-requires
 use_size-requires c =
     use_kept _ _ _ c.args.start c.args.end _ (record {
       literals = record { first = c.requires.0; second = c.requires.1 };
       rule = (let a = c.args in cost_kept (let a = c.args in
-          pattern_with a.pattern a.number (take a.a_bits (unpack a.a.now)) (take a.b_bits (unpack a.b.now))) a.start a.end c.if-rule-ne0.false (c.range_rule-rule.ensures 0));
+          pattern_with a.pattern a.number (take a.a_bits (unpack a.a.now)) (take a.b_bits (unpack a.b.now))) a.start a.end (omega arith) (c.range_rule-rule.ensures 0));
     }) refl (omega arith)
 
 pub returns : goal.returns
 returns c =
     cost_counted (let a = c.args in
     pattern_with a.pattern a.number (take a.a_bits (unpack a.a.now)) (take a.b_bits (unpack a.b.now))) c.args.start c.args.end (let a = c.args in cost_kept (let a = c.args in
-    pattern_with a.pattern a.number (take a.a_bits (unpack a.a.now)) (take a.b_bits (unpack a.b.now))) a.start a.end c.if-rule-ne0.false (c.range_rule-rule.ensures 0)) refl (c.use_size.ensures c.args.start)
+    pattern_with a.pattern a.number (take a.a_bits (unpack a.a.now)) (take a.b_bits (unpack a.b.now))) a.start a.end (omega arith) (c.range_rule-rule.ensures 0)) refl (c.use_size.ensures c.args.start)

@@ -1,12 +1,13 @@
 -- `bytes::desugar` meets its contract.
 use Rattle.expr.proofs.SubstituteSteps.{form_decodes}
 use Rattle.desugar.proofs.BytesSteps.{allowed}
+use native.Mathlib.Omega.{arith}
 use Rattle.desugar.proofs.bytes.desugar.Goals as goal
 
 pub write_desugared-requires : goal.write_desugared-requires
 write_desugared-requires c =
     record {
       form = form_decodes {s = c.args.term.now} {x = c.form.result} c.form.ensures c.in-Good.is;
-      limits = allowed c.if-units-eq0.false c.if-units-gt-MAX_ALLOWANCE.false;
+      limits = allowed (λ e. omega arith) (omega arith);
       room = c.if-work-units.false;
     }
