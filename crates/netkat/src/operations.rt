@@ -41,12 +41,7 @@ pub fn netkat_num_fields(term: &[u8]) -> Answer
 
 // The term with each occurrence of the variable `name` replaced that does not lie in the body of a Let or LetBitRange of that name, to the
 // front of the answer buffer: the first value is its length.
-pub fn netkat_substitute(
-    term: &[u8],
-    name: u16,
-    replacement: &[u8],
-    out: &mut [u8],
-) -> Answer
+pub fn netkat_substitute(term: &[u8], name: u16, replacement: &[u8], out: &mut [u8]) -> Answer
     ensures { Answers (Call.Substitute term.now name replacement.now) out.old out.new result }
 {
     match expr::replace::substitute(term, name, replacement, out) {
@@ -57,12 +52,7 @@ pub fn netkat_substitute(
 
 // The core of a term, to the front of the answer buffer: the values are its length and the drawn total. Of work memory only its length is
 // promised.
-pub fn netkat_desugar(
-    term: &[u8],
-    allowance: u32,
-    work: &mut [u32],
-    out: &mut [u8],
-) -> Answer
+pub fn netkat_desugar(term: &[u8], allowance: u32, work: &mut [u32], out: &mut [u8]) -> Answer
     ensures answers { Answers (Call.Desugar term.now allowance (length work.old)) out.old out.new result }
     ensures work_len_unchanged { length work.new ≡ length work.old }
 {
