@@ -72,16 +72,17 @@ uint32_t netkat_version(void);
 /* Stack: bytes below its caller's frame that are enough for a function, whatever its input. In a thread add what the C library keeps on
  * its stack, for which PTHREAD_STACK_MIN was enough (glibc), thread-local variables, the frames above the call and those of signal
  * handlers. Measured, not proved: tests/stack.c looks for the worst terms of 256 levels, and cores of 65,535 records, on x86-64, and then
- * runs each function on just so much. `make stack` prints these lines anew: what was measured and 512 more, rounded up to 4,096. */
-#define NETKAT_STACK_CHECK 163840            /* 159808 measured */
-#define NETKAT_STACK_DESUGAR 237568          /* 233648 measured */
-#define NETKAT_STACK_SUBSTITUTE 102400       /* 98720 measured */
-#define NETKAT_STACK_IS_TEST_FRAGMENT 57344  /* 53472 measured */
-#define NETKAT_STACK_NUM_FIELDS 57344        /* 53472 measured */
+ * runs each function on just so much. `make stack` prints these lines anew: what was measured and 512 more, rounded up to 4,096. What was
+ * promised stays where a later compiler needs less. */
+#define NETKAT_STACK_CHECK 163840            /* 127072 measured */
+#define NETKAT_STACK_DESUGAR 237568          /* 172248 measured */
+#define NETKAT_STACK_SUBSTITUTE 102400       /* 86432 measured */
+#define NETKAT_STACK_IS_TEST_FRAGMENT 57344  /* 45248 measured */
+#define NETKAT_STACK_NUM_FIELDS 57344        /* 45264 measured */
 #define NETKAT_STACK_COMPUTE_SUBRANGE 4096   /* 48 measured */
-#define NETKAT_STACK_COST 4096               /* 352 measured */
-#define NETKAT_STACK_READ_CORE 4096          /* 248 measured */
-#define NETKAT_STACK_RUN_PACKETS 8192        /* 4472 measured */
+#define NETKAT_STACK_COST 4096               /* 312 measured */
+#define NETKAT_STACK_READ_CORE 4096          /* 264 measured */
+#define NETKAT_STACK_RUN_PACKETS 8192        /* 4488 measured */
 
 /* The numbers of refusals. 43 to 47 and 51 to 54 are kept for functions to come. */
 enum netkat_refusal {
