@@ -24,8 +24,8 @@ pub fn write_record(work: &mut [u32], at: usize, kind: u32, field: u32, value: u
 pub(crate) fn copy(work: &mut [u32], from: usize, to: usize, count: usize)
     requires { CopyRoom (length work.old) from to count }
     ensures kept { Kept to work.old work.new }
-    ensures by_index { (ys : List ℕ) → length ys ≡ count → Holds work.old from ys → Holds work.new to ys }
-    ensures by_index_2 { (k : ℕ) → to + count ≤ k → get_or work.new k 0 ≡ get_or work.old k 0 }
+    ensures copied { (ys : List ℕ) → length ys ≡ count → Holds work.old from ys → Holds work.new to ys }
+    ensures beyond { (k : ℕ) → to + count ≤ k → get_or work.new k 0 ≡ get_or work.old k 0 }
 {
     let mut i = 0;
     while i < count {

@@ -111,7 +111,7 @@ pub(crate) fn step(
     requires captured { Captured packets.now lengths.now capture }
     requires masks_of { MasksOf (packet_bytes lengths.now packets.now) table.old }
     ensures stepped { Stepped (packet_bytes lengths.now packets.now) list.old sofar r list.new result }
-    ensures masks_of_2 { MasksOf (packet_bytes lengths.now packets.now) table.new }
+    ensures masks_of_new { MasksOf (packet_bytes lengths.now packets.now) table.new }
 {
     let depth = sofar.depth;
     let skip = sofar.skip;

@@ -61,7 +61,7 @@ fn kept_mask(table: &mut [u64; 512], packets: &[u8], lengths: &[u32], end: usize
     requires lengths_len_bound { (length lengths.now ≤ max_packets) × (end ≡ total lengths.now) }
     requires masks_of { MasksOf (packet_bytes lengths.now packets.now) table.old }
     ensures value { result ≡ field_mask field (packet_bytes lengths.now packets.now) }
-    ensures masks_of_2 { MasksOf (packet_bytes lengths.now packets.now) table.new }
+    ensures masks_of_new { MasksOf (packet_bytes lengths.now packets.now) table.new }
 {
     let slot = 2 * (field % SLOTS) as usize;
     let name = field as u64 + 1;
@@ -85,7 +85,7 @@ pub(crate) fn leaf_mask(
     requires captured { Captured packets.now lengths.now capture }
     requires masks_of { MasksOf (packet_bytes lengths.now packets.now) table.old }
     ensures value { result ≡ leaf_mask r.kind r.field r.value (packet_bytes lengths.now packets.now) }
-    ensures masks_of_2 { MasksOf (packet_bytes lengths.now packets.now) table.new }
+    ensures masks_of_new { MasksOf (packet_bytes lengths.now packets.now) table.new }
 {
     let kind = r.kind;
     let value = r.value;

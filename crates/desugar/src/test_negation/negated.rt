@@ -114,7 +114,7 @@ fn pass(work: &mut [u32], p: Places, start: usize) -> Negated
     requires layout { Layout (length work.old) p.at p.n p.notes p.modes p.out p.limit }
     requires run { (t : Core) × Run work.old t p.at p.n p.notes p.modes p.out 0 start 0 }
     ensures kept { Kept p.modes work.old work.new }
-    ensures fact { (t : Core) → Run work.old t p.at p.n p.notes p.modes p.out 0 start 0 → Result work.new t p.out p.limit result }
+    ensures negated { (t : Core) → Run work.old t p.at p.n p.notes p.modes p.out 0 start 0 → Result work.new t p.out p.limit result }
 {
     let mut top = start;
     let mut made: usize = 0;
@@ -145,7 +145,7 @@ pub(crate) fn negate(
     requires layout { Layout (length work.old) at n notes modes out limit }
     requires noted { (c : Core) × Noted work.old at n notes c }
     ensures kept { Kept modes work.old work.new }
-    ensures fact { (c : Core) → Noted work.old at n notes c → Result work.new c out limit result }
+    ensures negated { (c : Core) → Noted work.old at n notes c → Result work.new c out limit result }
 {
     let top = modes + n - 1;
     work[top] = 0;

@@ -36,7 +36,7 @@ pub(crate) fn negate_plain(work: &mut [u32], at: usize, n: usize, to: usize)
     requires copy_room { CopyRoom (length work.old) at to (3 * n) }
     requires lies { (c : Core) × (Lies work.old at n c) × (is_plain c ≡ true) }
     ensures kept { Kept to work.old work.new }
-    ensures lies_2 { (c : Core) → Lies work.old at n c → is_plain c ≡ true → Lies work.new to n (negate c) }
+    ensures negated { (c : Core) → Lies work.old at n c → is_plain c ≡ true → Lies work.new to n (negate c) }
 {
     let mut j = 0;
     while j < n {

@@ -40,7 +40,7 @@ loop-due-preserved c =
     let p = c.loop-due.invariant.0 in
     let found = subst (CoreRecordFound (drop c.loop-due.at c.args.s.now)) c.in-Found.is c.read_core_record.ensures in (
       pass_skipped (pass_record p c.type_inv.s c.loop-due-test.true (omega (arith, c.if-place-ge-MAX_CORE.false)) c.in-Found.r found c.arity.ensures c.widen-widest.ensures (ap (λ b. c.loop-due.test && b) c.is_test_kind-test.ensures) c.step-run.auto.list c.step-run.ensures.stepped) c.type_inv.s c.skip_cores-next.ensures,
-      c.step-run.ensures.masks_of_2,
+      c.step-run.ensures.masks_of_new,
     )
 
 pub returns-then-at-s : goal.returns-then-at-s

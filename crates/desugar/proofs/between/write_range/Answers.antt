@@ -22,14 +22,14 @@ pub returns-then-same_value : goal.returns-then-same_value
 returns-then-same_value c =
     let a = c.args in
     c.write_chain.ensures Intersect Test (record { operator_is = refl; atom_is = λ s b. refl })
-    ∙ ap (λ §9§. sets a.work.now a.at (words §9§)) (between_is a.low_bits a.high_bits a.width (unpack a.low.now) (unpack a.high.now) c.requires.1.low_fits c.requires.1.high_fits
+    ∙ ap (λ core. sets a.work.now a.at (words core)) (between_is a.low_bits a.high_bits a.width (unpack a.low.now) (unpack a.high.now) c.requires.1.low_fits c.requires.1.high_fits
     (sym c.if-same_value.true ∙ c.same_value.ensures) refl refl a.start)
 
 pub returns-then-to_highest : goal.returns-then-to_highest
 returns-then-to_highest c =
     let a = c.args in
     c.write_record.ensures
-    ∙ ap (λ §18§. sets a.work.now a.at (words §18§)) (between_is a.low_bits a.high_bits a.width (unpack a.low.now) (unpack a.high.now) c.requires.1.low_fits c.requires.1.high_fits
+    ∙ ap (λ core. sets a.work.now a.at (words core)) (between_is a.low_bits a.high_bits a.width (unpack a.low.now) (unpack a.high.now) c.requires.1.low_fits c.requires.1.high_fits
     (sym c.if-same_value.false ∙ c.same_value.ensures) (sym c.if-from_zero.true ∙ c.is_zero-from_zero.ensures) (sym c.if-to_highest.true ∙ c.is_highest-to_highest.ensures) a.start)
 
 pub write_bound-requires : goal.write_bound-requires
@@ -43,7 +43,7 @@ pub returns-then-from_zero : goal.returns-then-from_zero
 returns-then-from_zero c =
     let a = c.args in
     c.write_bound.ensures
-    ∙ ap (λ §23§. sets a.work.now a.at (words §23§)) (between_is a.low_bits a.high_bits a.width (unpack a.low.now) (unpack a.high.now) c.requires.1.low_fits c.requires.1.high_fits
+    ∙ ap (λ core. sets a.work.now a.at (words core)) (between_is a.low_bits a.high_bits a.width (unpack a.low.now) (unpack a.high.now) c.requires.1.low_fits c.requires.1.high_fits
     (sym c.if-same_value.false ∙ c.same_value.ensures) (sym c.if-from_zero.true ∙ c.is_zero-from_zero.ensures) (sym c.if-to_highest.false ∙ c.is_highest-to_highest.ensures) a.start)
 
 pub write_bound-requires-then-to_highest-2 : goal.write_bound-requires-then-to_highest-2
@@ -57,7 +57,7 @@ pub returns-then-to_highest-2 : goal.returns-then-to_highest-2
 returns-then-to_highest-2 c =
     let a = c.args in
     c.write_bound-then-to_highest-2.ensures
-    ∙ ap (λ §29§. sets a.work.now a.at (words §29§)) (between_is a.low_bits a.high_bits a.width (unpack a.low.now) (unpack a.high.now) c.requires.1.low_fits c.requires.1.high_fits
+    ∙ ap (λ core. sets a.work.now a.at (words core)) (between_is a.low_bits a.high_bits a.width (unpack a.low.now) (unpack a.high.now) c.requires.1.low_fits c.requires.1.high_fits
     (sym c.if-same_value.false ∙ c.same_value.ensures) (sym c.if-from_zero.false ∙ c.is_zero-from_zero.ensures) (sym c.if-to_highest-2.true ∙ c.is_highest-to_highest.ensures) a.start)
 
 pub write_both-requires : goal.write_both-requires
@@ -71,5 +71,5 @@ pub returns : goal.returns
 returns c =
     let a = c.args in
     c.write_both.ensures
-    ∙ ap (λ §34§. sets a.work.now a.at (words §34§)) (between_is a.low_bits a.high_bits a.width (unpack a.low.now) (unpack a.high.now) c.requires.1.low_fits c.requires.1.high_fits
+    ∙ ap (λ core. sets a.work.now a.at (words core)) (between_is a.low_bits a.high_bits a.width (unpack a.low.now) (unpack a.high.now) c.requires.1.low_fits c.requires.1.high_fits
     (sym c.if-same_value.false ∙ c.same_value.ensures) (sym c.if-from_zero.false ∙ c.is_zero-from_zero.ensures) (sym c.if-to_highest-2.false ∙ c.is_highest-to_highest.ensures) a.start)

@@ -14,4 +14,4 @@ returns-else-allowance-count c =
     let f = core_found a.work.now a.env.last (lookup_variable ρ a.head.name) c.lookup_variable.result c.in-At.at c.in-At.count (c.lookup_variable.ensures ρ b) c.in-At.is in
     same_came (variable_drawn ρ a.head.name a.place (left a.allowance) f.core f.is)
     (came f.core a.place a.allowance c.in-At.count f.lies.count c.if-allowance-count.false a.used _ a.top a.work.now _
-    (c.copy.ensures.by_index (words f.core) (omega (arith, length_words f.core, f.lies.count)) f.lies.holds) c.copy.ensures.kept)
+    (c.copy.ensures.copied (words f.core) (omega (arith, length_words f.core, f.lies.count)) f.lies.holds) c.copy.ensures.kept)

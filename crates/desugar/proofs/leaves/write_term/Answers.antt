@@ -33,4 +33,4 @@ returns c =
     c.write_record.ensures
     ∙ ap (λ v. sets l.work l.to (6 ∷ (a.start + a.i) ∷ v ∷ [])) c.value.ensures
     ∙ top_last a.start (take a.bits (unpack a.bytes.now)) a.width down (omega arith) a.work.now a.progress.to
-    (l.invariant.4 a.work.now (links_copied c.requires.3 copy.kept copy.by_index copy.by_index_2)) l.invariant.2 a.v
+    (l.invariant.4 a.work.now (links_copied c.requires.3 copy.kept copy.copied copy.beyond)) l.invariant.2 a.v

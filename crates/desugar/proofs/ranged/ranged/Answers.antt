@@ -13,22 +13,6 @@ use Rattle.desugar.proofs.ranged.ranged.Goals as goal
 pub judged_range-requires : goal.judged_range-requires
 judged_range-requires c = let p = c.requires in record { inside = p.inside; env = p.env; bound = p.bound }
 
--- TODO need slice-bounds-a-start
--- part-a-start : tie.Need-slice-bounds-a-start
--- part-a-start c = search rules
-
--- TODO need slice-bounds-a-end
--- part-a-end : tie.Need-slice-bounds-a-end
--- part-a-end c = search rules
-
--- TODO need slice-bounds-b-start
--- part-b-start : tie.Need-slice-bounds-b-start
--- part-b-start c = search rules
-
--- TODO need slice-bounds-b-end
--- part-b-end : tie.Need-slice-bounds-b-end
--- part-b-end c = search rules
-
 pub use_core-requires : goal.use_core-requires
 use_core-requires c = let a = c.args in
     let h = record_of a.s.now a.head in

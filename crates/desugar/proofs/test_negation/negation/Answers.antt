@@ -19,7 +19,7 @@ returns-then-is_plain c =
     let e = c.negate_plain.ensures in
     record {
       kept = e.kept;
-      negates = λ t h. let q = sym (c.is_plain.ensures t h) ∙ c.if-is_plain.true in plain_fits q c.if-limit-n.false (e.lies_2 t h q);
+      negates = λ t h. let q = sym (c.is_plain.ensures t h) ∙ c.if-is_plain.true in plain_fits q c.if-limit-n.false (e.negated t h q);
     }
 
 -- From here on m is the place after `measure`, and s the start.
@@ -34,7 +34,7 @@ negate-negated-requires c =
 pub copy-requires : goal.copy-requires
 copy-requires c =
     let noted = noted_after c.requires.layout.0 c.is_test-test.ensures (c.if-not-test.false) c.measure.ensures.kept c.measure.ensures.holds in
-    let size = size_is (c.negate-negated.ensures.fact c.requires.lies.0 (noted c.requires.lies.0 c.requires.lies.1)) c.in-Size.is in
+    let size = size_is (c.negate-negated.ensures.negated c.requires.lies.0 (noted c.requires.lies.0 c.requires.lies.1)) c.in-Size.is in
     record {
       source = omega (arith, size, c.requires.layout.0, c.wide-count.ensures, c.measure.ensures.kept.long, c.negate-negated.ensures.kept.long);
       target = omega (arith, size, c.requires.layout.0, c.requires.layout.1, c.wide-count.ensures, c.measure.ensures.kept.long, c.negate-negated.ensures.kept.long);
@@ -47,7 +47,7 @@ returns-in-Size c =
     let negate = c.negate-negated.ensures in
     let down = c.copy.ensures in record {
       kept = kept_then (kept_less (omega (arith, c.requires.layout.0, c.requires.layout.1)) c.measure.ensures.kept) (kept_then (kept_less (omega (arith, c.requires.layout.0, c.requires.layout.1)) negate.kept) down.kept);
-      negates = λ t h. fits (noted t h).test (negate.fact t (noted t h)) c.in-Size.is (λ ys e. down.by_index ys (e ∙ ap (λ (k : ℕ). 3 * k) (sym c.wide-count.ensures)));
+      negates = λ t h. fits (noted t h).test (negate.negated t (noted t h)) c.in-Size.is (λ ys e. down.copied ys (e ∙ ap (λ (k : ℕ). 3 * k) (sym c.wide-count.ensures)));
     }
 
 pub returns-in-TooLarge : goal.returns-in-TooLarge
@@ -55,5 +55,5 @@ returns-in-TooLarge c =
     let noted = noted_after c.requires.layout.0 c.is_test-test.ensures (c.if-not-test.false) c.measure.ensures.kept c.measure.ensures.holds in
     let negate = c.negate-negated.ensures in record {
       kept = kept_then (kept_less (omega (arith, c.requires.layout.0, c.requires.layout.1)) c.measure.ensures.kept) (kept_less (omega (arith, c.requires.layout.0, c.requires.layout.1)) negate.kept);
-      negates = λ t h. large (noted t h).test (negate.fact t (noted t h)) c.in-TooLarge.is;
+      negates = λ t h. large (noted t h).test (negate.negated t (noted t h)) c.in-TooLarge.is;
     }

@@ -5,5 +5,5 @@ use Rattle.desugar.proofs.went.settle.Goals as goal
 pub returns : goal.returns
 returns c = record {
   kept = c.copy.ensures.kept;
-  lies = lies_copied c.copy.ensures.by_index;
+  lies = lies_copied c.copy.ensures.copied;
 }

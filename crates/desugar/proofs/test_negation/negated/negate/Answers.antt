@@ -24,5 +24,5 @@ pub returns : goal.returns
 returns c =
     record {
       kept = kept_then (kept_sets c.args.modes c.args.work.now (c.args.modes + c.args.n - 1) (0 ∷ []) (omega (arith, some_records c.requires.noted.0 c.requires.noted.1))) c.pass.ensures.kept;
-      fact = λ t h. c.pass.ensures.fact t (begin c.requires.layout h);
+      negated = λ t h. c.pass.ensures.negated t (begin c.requires.layout h);
     }

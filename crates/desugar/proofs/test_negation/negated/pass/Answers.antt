@@ -8,12 +8,12 @@ returns-then-p-next c =
     let e = c.turn-next.ensures in
     record {
       kept = kept_then c.loop-j.invariant.1.1.0 e.kept;
-      fact = λ t h. too_large ((e.stepped t (c.loop-j.invariant.1.1.1 t h)).over c.if-p-next.true);
+      negated = λ t h. too_large ((e.stepped t (c.loop-j.invariant.1.1.1 t h)).over c.if-p-next.true);
     }
 
 pub returns : goal.returns
 returns c =
     record {
       kept = c.loop-j.invariant.1.1.0;
-      fact = λ t h. ended c.args.p.limit c.loop-j.invariant.1.0 c.loop-j-test.false (c.loop-j.invariant.1.1.1 t h);
+      negated = λ t h. ended c.args.p.limit c.loop-j.invariant.1.0 c.loop-j-test.false (c.loop-j.invariant.1.1.1 t h);
     }

@@ -28,5 +28,5 @@ loop-j-preserved c =
 pub returns : goal.returns
 returns c = record {
   kept = c.loop-j.invariant.1.0;
-  lies_2 = λ t h q. ended c.loop-j-test.false (c.loop-j.invariant.1.1 t h q);
+  negated = λ t h q. ended c.loop-j-test.false (c.loop-j.invariant.1.1 t h q);
 }
