@@ -9,6 +9,11 @@ use Rattle.expr.specs.Answers.{Answer, ok, refuse, and_then}
 use Rattle.expr.specs.Terms.{Core, Expr, records}
 use Rattle.expr.specs.Form.{encode}
 use Rattle.expr.specs.Replaced.{encode_all}
+use Rattle.expr.specs.Results.{RecordFound}
+use Rattle.expr.specs.declared.records.Head.{Head}
+use Rattle.expr.specs.declared.records.HeadRead.{HeadRead}
+use Rattle.expr.specs.declared.records.HeadRead.TheVariants as head
+use Rattle.expr.proofs.HeadOf.{Headed, headed}
 use Rattle.expr.proofs.Slices.{part, part_is}
 use Rattle.desugar.specs.Bindings.{Env}
 use Rattle.desugar.specs.Meter.{Meter, left}
@@ -27,6 +32,11 @@ pub use Rattle.desugar.proofs.RecordBytes.{lies_inside}
 -- the term at a byte is at the front of what `&s[at..]` holds
 abbrev pub in_part : (s : List ℕ) (at : ℕ) {levels place : ℕ} {e : Expr} → TermAt (drop at s) levels place e → TermAt (part at s) levels place e
 in_part s at t = record { more = t.more; bytes = part_is at s ∙ t.bytes; fits = t.fits; deep = t.deep; low = t.low }
+
+-- the record that was read there is the term's first
+pub text_head : (s : List ℕ) (at : ℕ) {levels place : ℕ} {e : Expr} (t : TermAt (drop at s) levels place e) {x : HeadRead} {h : Head}
+    → RecordFound (part at s) x → x ≡ head.Found h → Headed (part at s) e t.more h
+text_head s at {e = e} t f is = headed e t.more (in_part s at t).bytes t.fits f is
 
 module _ {s : List ℕ} {from levels place : ℕ} (e : Expr) (es : List Expr) (t : TermsAt s from levels place (e ∷ es)) where
   behind : drop from s ≡ encode e ++ (encode_all es ++ t.more)

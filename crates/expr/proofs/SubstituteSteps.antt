@@ -84,6 +84,9 @@ pub record Both (s t : List ℕ) : Type 0 where
   pub bytes₁ : Sliced s
   pub bytes₂ : Sliced t
 
+pub both_known : {s t : List ℕ} → Decodes s × Decodes t → Sliced s → Sliced t → Both s t
+both_known d b₁ b₂ = record { decodes = d; bytes₁ = b₁; bytes₂ = b₂ }
+
 module _ {s t : List ℕ} (x : Name) (both : Both s t) where
   abbrev e : Expr
   e = both.decodes.0.term

@@ -16,7 +16,10 @@ use Rattle.expr.specs.declared.replace.Job.{Job}
 use Rattle.expr.specs.declared.replace.Went.{Went}
 use Rattle.expr.proofs.TermShape.{kids, encode_all, records_all, depth_all, encode_is, records_is, depth_is, fits_is}
 use Rattle.expr.proofs.Arities.{arity_small}
-use Rattle.expr.proofs.HeadOf.{Headed}
+use Rattle.expr.specs.Results.{RecordFound}
+use Rattle.expr.specs.declared.records.HeadRead.{HeadRead}
+use Rattle.expr.specs.declared.records.HeadRead.TheVariants as head
+use Rattle.expr.proofs.HeadOf.{Headed, headed}
 use Rattle.expr.proofs.Replacing.{of_name, free_var, free_first, free_others, Kept, swap_keeps, swap_var, kids_count, length_is}
 use Rattle.expr.proofs.Copied.{pasted_more}
 
@@ -29,6 +32,10 @@ module _ {s : List ℕ} {left : ℕ} {live : Bool} {j : Job} {w out : List ℕ} 
 
   pub some_left : 1 ≤ left
   some_left = omega (arith, depth_is e, q.deep)
+
+  -- the record that was read is the term's first
+  pub front_head : {x : HeadRead} {h : Head} → RecordFound s x → x ≡ head.Found h → Headed s e q.more h
+  front_head f is = headed e q.more q.bytes q.fits f is
 
   module _ {h : Head} (k : Headed s e q.more h) where
     -- what is asked of the record that was read holds of the term's own

@@ -24,5 +24,6 @@ returns-then-short-count c = ran_short c.args.core.now (length c.args.list.now) 
 
 pub returns : goal.returns
 returns c =
-    let few = ran_few c.args.core.now (length c.args.list.now) c.args.packets.now c.args.lengths.now (read_of c.args.core.now (length c.args.list.now) c.args.packets.now c.args.lengths.now c.one_pass.ensures c.in-Found.is) c.if-not-read.false c.if-count.false in
-    ran_good c.args.core.now (length c.args.list.now) c.args.packets.now c.args.lengths.now (read_of c.args.core.now (length c.args.list.now) c.args.packets.now c.args.lengths.now c.one_pass.ensures c.in-Found.is) c.if-not-read.false c.if-count.false c.first_short-short.result c.first_short-short.ensures c.if-short-count.false (ap (λ ns. packet_bytes ns c.args.packets.now) (take_all c.smaller-few.result c.args.lengths.now (omega (arith, few, c.smaller-few.ensures))))
+    let read = read_of c.args.core.now (length c.args.list.now) c.args.packets.now c.args.lengths.now c.one_pass.ensures c.in-Found.is in
+    let few = ran_few c.args.core.now (length c.args.list.now) c.args.packets.now c.args.lengths.now read c.if-not-read.false c.if-count.false in
+    ran_good c.args.core.now (length c.args.list.now) c.args.packets.now c.args.lengths.now read c.if-not-read.false c.if-count.false c.first_short-short.result c.first_short-short.ensures c.if-short-count.false (ap (λ ns. packet_bytes ns c.args.packets.now) (take_all c.smaller-few.result c.args.lengths.now (omega (arith, few, c.smaller-few.ensures))))

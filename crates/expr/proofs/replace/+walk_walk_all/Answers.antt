@@ -1,7 +1,7 @@
 use native.Mathlib.Omega.{arith}
 use Rattle.expr.proofs.Arities.{arity_small}
-use Rattle.expr.proofs.HeadOf.{not_refused, headed}
-use Rattle.expr.proofs.SwapSteps.{some_left, is_var, is_first, is_others, var_room, var_done, own_room, all_ready, all_done}
+use Rattle.expr.proofs.HeadOf.{not_refused}
+use Rattle.expr.proofs.SwapSteps.{some_left, front_head, is_var, is_first, is_others, var_room, var_done, own_room, all_ready, all_done}
 use Rattle.expr.proofs.SwapRest.{first_ready, used_inside, count_small, level_small, all_due, none_due, due_again}
 use Rattle.expr.proofs.replace.+walk_walk_all.Goals as goal
 
@@ -11,30 +11,35 @@ walk-returns-in-Refused t c = λ q. absurd (not_refused q.term q.more q.bytes q.
 pub walk-copy-requires : goal.walk-copy-requires
 walk-copy-requires t c =
     let q = c.requires in
-    var_room q (headed q.term q.more q.bytes q.fits c.read_record.ensures c.in-Found.is) (is_var q (headed q.term q.more q.bytes q.fits c.read_record.ensures c.in-Found.is) c.is_named.ensures c.both.ensures c.if-both.true)
+    let head = front_head q c.read_record.ensures c.in-Found.is in
+    var_room q head (is_var q head c.is_named.ensures c.both.ensures c.if-both.true)
 
 pub walk-returns-then-both : goal.walk-returns-then-both
 walk-returns-then-both t c = λ q.
-    var_done q (headed q.term q.more q.bytes q.fits c.read_record.ensures c.in-Found.is) (is_var q (headed q.term q.more q.bytes q.fits c.read_record.ensures c.in-Found.is) c.is_named.ensures c.both.ensures c.if-both.true) c.copy.ensures
+    let head = front_head q c.read_record.ensures c.in-Found.is in
+    var_done q head (is_var q head c.is_named.ensures c.both.ensures c.if-both.true) c.copy.ensures
 
 pub walk-copy-requires-2 : goal.walk-copy-requires-2
 walk-copy-requires-2 t c =
     let q = c.requires in
-    own_room q (headed q.term q.more q.bytes q.fits c.read_record.ensures c.in-Found.is) (is_var q (headed q.term q.more q.bytes q.fits c.read_record.ensures c.in-Found.is) c.is_named.ensures c.both.ensures c.if-both.false)
+    let head = front_head q c.read_record.ensures c.in-Found.is in
+    own_room q head (is_var q head c.is_named.ensures c.both.ensures c.if-both.false)
 
 pub walk-overflow_sub-left : goal.walk-overflow_sub-left
 walk-overflow_sub-left t c = some_left c.requires
 
 pub walk-walk_all-requires : goal.walk-walk_all-requires
 walk-walk_all-requires t c =
-    let q = c.requires in (
+    let q = c.requires in
+    let own = front_head q c.read_record.ensures c.in-Found.is in (
       omega (arith, c.decreases, some_left q, arity_small c.in-Found.head.kind c.arity-count.result c.arity-count.ensures),
-      all_ready q (headed q.term q.more q.bytes q.fits c.read_record.ensures c.in-Found.is) (is_var q (headed q.term q.more q.bytes q.fits c.read_record.ensures c.in-Found.is) c.is_named.ensures c.both.ensures c.if-both.false) (is_first q (headed q.term q.more q.bytes q.fits c.read_record.ensures c.in-Found.is) c.is_named-2.ensures c.unless-first.ensures) (is_others q (headed q.term q.more q.bytes q.fits c.read_record.ensures c.in-Found.is) c.is_named-3.ensures c.unless-others.ensures) c.copy-2.auto.out c.arity-count.ensures,
+      all_ready q own (is_var q own c.is_named.ensures c.both.ensures c.if-both.false) (is_first q own c.is_named-2.ensures c.unless-first.ensures) (is_others q own c.is_named-3.ensures c.unless-others.ensures) c.copy-2.auto.out c.arity-count.ensures,
     )
 
 pub walk-returns : goal.walk-returns
 walk-returns t c = λ q.
-    all_done q (headed q.term q.more q.bytes q.fits c.read_record.ensures c.in-Found.is) (is_var q (headed q.term q.more q.bytes q.fits c.read_record.ensures c.in-Found.is) c.is_named.ensures c.both.ensures c.if-both.false) (is_first q (headed q.term q.more q.bytes q.fits c.read_record.ensures c.in-Found.is) c.is_named-2.ensures c.unless-first.ensures) (is_others q (headed q.term q.more q.bytes q.fits c.read_record.ensures c.in-Found.is) c.is_named-3.ensures c.unless-others.ensures) c.copy-2.ensures c.copy-2.auto.out c.arity-count.ensures c.walk_all.ensures
+    let head = front_head q c.read_record.ensures c.in-Found.is in
+    all_done q head (is_var q head c.is_named.ensures c.both.ensures c.if-both.false) (is_first q head c.is_named-2.ensures c.unless-first.ensures) (is_others q head c.is_named-3.ensures c.unless-others.ensures) c.copy-2.ensures c.copy-2.auto.out c.arity-count.ensures c.walk_all.ensures
 
 pub walk_all-loop-due-init : goal.walk_all-loop-due-init
 walk_all-loop-due-init t c = all_due c.requires
