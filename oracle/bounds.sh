@@ -1,5 +1,5 @@
 #!/bin/sh
-# Compares bounds through `literals::compare`, which the library does not export: the program `replay` asks it. The vectors, all bounds over
+# Compares bounds through `literals::BitSlice::compare`, which the library does not export: the program `replay` asks it. The vectors, all bounds over
 # fields of up to five bits and random ones, with the model's answers and those of second.py. Ends with 1 on a difference.
 #   ORACLE_SEEDS as for run.sh; SEED (1), COUNT (100000) random comparisons
 # Needs the Rattle kit (rt), cargo and python3.

@@ -10,6 +10,10 @@ use borrow.Author.Tests.{eq-eqb, ne_eqb}
 use lib.Dec.{leb, eqb}
 use lib.ListN.{length, drop, get_or}
 use lib.Seq.{drop-cons}
+use Rattle.std.specs.Prelude.{Result, Ok, Err}
+use Rattle.refusals.specs.declared.Refusal.{Refusal}
+use Rattle.expr.specs.Kinds.{kind_number}
+use Rattle.expr.specs.declared.kind.Kind.{Kind}
 use Rattle.literals.specs.Bits.{Bytes, bit, number_of, value_of}
 use Rattle.literals.specs.Reading.{got, fault}
 use Rattle.literals.proofs.Bits.{bit_small}
@@ -20,7 +24,6 @@ use Rattle.expr.specs.Records.{Record, is_match, none_lacks, fits_pattern, stand
 use Rattle.expr.specs.Form.{atom_record, RecordFits}
 use Rattle.expr.specs.Results.{RecordFound, record_of}
 use Rattle.expr.specs.declared.records.Head.{Head}
-use Rattle.expr.specs.declared.records.HeadRead.TheVariants as head
 use Rattle.expr.proofs.RecordForm.{Legal, field_bits}
 use Rattle.expr.proofs.NodeForm.{own_node, Writes}
 use Rattle.expr.proofs.Slices.{Sliced, bytes_each}
@@ -29,7 +32,6 @@ use Rattle.desugar.proofs.RecordBytes.{kind_is, kind_only, atom_map, number_some
 use Rattle.cores.specs.Reading.{term_kind, read_core_record, CoreNode, atom, unary, binary, core_node}
 use Rattle.cores.specs.Results.{CoreRecordFound, operator_bytes, atom_bytes}
 use Rattle.cores.specs.declared.records.CoreRecord.{CoreRecord}
-use Rattle.cores.specs.declared.records.RecordRead.TheVariants as record_read
 use Rattle.cores.proofs.CoreForm.{Wrote, core_forward, core_only, written_node, node_wrote}
 
 -- ## By the reader of terms
@@ -60,11 +62,11 @@ module _ (s : List ℕ) (no : term_kind s ≡ false) where
   as_term : read_record s ≡ read_core_record s
   as_term = ap (λ b. cond b (fault 41) (read_record s)) (sym no)
 
-  pub any_refused : {n : ℕ} → RecordFound s (head.Refused n) → CoreRecordFound s (record_read.Refused n)
+  pub any_refused : {e : Refusal} → RecordFound s (Err e) → CoreRecordFound s (Err e)
   any_refused f = record { answer = f.answer ∙ as_term; inside = tt }
 
-  pub any_found : {h : Head} → Sliced s → RecordFound s (head.Found h)
-      → CoreRecordFound s (record_read.Found (record { kind = h.kind; field = h.start; value = h.number; size = h.size }))
+  pub any_found : {h : Head} → Sliced s → RecordFound s (Ok h)
+      → CoreRecordFound s (Ok (record { kind = h.kind; field = h.start; value = h.number; size = h.size }))
   any_found {h} each f =
       let is : got (record_of s h) (drop h.size s) ≡ read_core_record s = f.answer ∙ as_term in
       let w = core_only s (record_of s h) (drop h.size s) (bytes_each s each) (sym is) in
@@ -135,22 +137,22 @@ module _ (a b c d : ℕ) (bytes : Bytes (a ∷ b ∷ c ∷ d ∷ [])) (some : 0 
 
 -- ## In the words of the code
 
-abbrev found : (kind field value size : ℕ) → CoreRecord
+abbrev found : (kind : Kind) (field value size : ℕ) → CoreRecord
 found k f v n = record { kind = k; field = f; value = v; size = n }
 
-operator_found : (m k : ℕ) (rest : List ℕ) → operator_bytes m k ≡ true → CoreRecordFound (m ∷ k ∷ rest) (record_read.Found (found k 0 0 2))
-operator_found m k rest h =
+operator_found : (m k : ℕ) (kind : Kind) (rest : List ℕ) → kind_number kind ≡ k → operator_bytes m k ≡ true → CoreRecordFound (m ∷ k ∷ rest) (Ok (found kind 0 0 2))
+operator_found m k kind rest is h =
     let one : m ≡ 1 = (eqb_is m 1).0 (and_left (eqb m 1) (leb 7 k && leb k 15) h) in
     let kinds : (leb 7 k && leb k 15) ≡ true = and_right (eqb m 1) (leb 7 k && leb k 15) h in
     let low : 7 ≤ k = (leb_is 7 k).0 (and_left (leb 7 k) (leb k 15) kinds) in
     let high : k ≤ 15 = (leb_is k 15).0 (and_right (leb 7 k) (leb k 15) kinds) in
     record {
-      answer = operator_reads k rest (omega arith) high ∙ ap (λ n. read_core_record (n ∷ k ∷ rest)) (sym one);
+      answer = ap (λ j. got (core_record j 0 0) rest) is ∙ operator_reads k rest (omega arith) high ∙ ap (λ n. read_core_record (n ∷ k ∷ rest)) (sym one);
       inside = (omega arith, omega arith);
     }
 
 module _ (m k a b c d v : ℕ) (rest : List ℕ) (bytes : Bytes (a ∷ b ∷ c ∷ d ∷ [])) {f : ℕ} (is : f ≡ a + 256 * (b + 256 * (c + 256 * d)))
-    (h : atom_bytes m k f v ≡ true) where
+    (kind : Kind) (named : kind_number kind ≡ k) (h : atom_bytes m k f v ≡ true) where
   spelled : number_of (a ∷ b ∷ c ∷ d ∷ []) ≡ f
   spelled = omega (arith, is)
 
@@ -187,12 +189,12 @@ module _ (m k a b c d v : ℕ) (rest : List ℕ) (bytes : Bytes (a ∷ b ∷ c �
       go (inr e) = (true, (eqb_is m 37).0 (and_left (eqb m 37) (eqb v 1) e), (eqb_is v 1).0 (and_right (eqb m 37) (eqb v 1) e))
 
   atom_as : (x y : Bool) → k ≡ cond x 5 6 → m ≡ 5 + 32 * bit y → cond y (v ≡ 1) (Unit {0})
-      → CoreRecordFound (m ∷ k ∷ a ∷ b ∷ c ∷ d ∷ v ∷ rest) (record_read.Found (found k f (m / 32) (6 + m / 32)))
+      → CoreRecordFound (m ∷ k ∷ a ∷ b ∷ c ∷ d ∷ v ∷ rest) (Ok (found kind f (m / 32) (6 + m / 32)))
   atom_as x true p q r =
       let one : m / 32 ≡ 1 = omega (arith, q) in
       record {
         answer =
-            (λ i. got (core_record (p i) (sym spelled i) (one i)) (drop (6 + one i) (m ∷ k ∷ a ∷ b ∷ c ∷ d ∷ v ∷ rest)))
+            (λ i. got (core_record ((named ∙ p) i) (sym spelled i) (one i)) (drop (6 + one i) (m ∷ k ∷ a ∷ b ∷ c ∷ d ∷ v ∷ rest)))
             ∙ atom_reads a b c d bytes (omega (arith, spelled, field_stands)) x true rest
             ∙ λ i. read_core_record (sym q i ∷ sym p i ∷ a ∷ b ∷ c ∷ d ∷ sym r i ∷ rest);
         inside = (omega arith, omega (arith, one));
@@ -201,13 +203,13 @@ module _ (m k a b c d v : ℕ) (rest : List ℕ) (bytes : Bytes (a ∷ b ∷ c �
       let none : m / 32 ≡ 0 = omega (arith, q) in
       record {
         answer =
-            (λ i. got (core_record (p i) (sym spelled i) (none i)) (drop (6 + none i) (m ∷ k ∷ a ∷ b ∷ c ∷ d ∷ v ∷ rest)))
+            (λ i. got (core_record ((named ∙ p) i) (sym spelled i) (none i)) (drop (6 + none i) (m ∷ k ∷ a ∷ b ∷ c ∷ d ∷ v ∷ rest)))
             ∙ atom_reads a b c d bytes (omega (arith, spelled, field_stands)) x false (v ∷ rest)
             ∙ λ i. read_core_record (sym q i ∷ sym p i ∷ a ∷ b ∷ c ∷ d ∷ v ∷ rest);
         inside = (omega arith, omega (arith, none));
       }
 
-  atom_found : CoreRecordFound (m ∷ k ∷ a ∷ b ∷ c ∷ d ∷ v ∷ rest) (record_read.Found (found k f (m / 32) (6 + m / 32)))
+  atom_found : CoreRecordFound (m ∷ k ∷ a ∷ b ∷ c ∷ d ∷ v ∷ rest) (Ok (found kind f (m / 32) (6 + m / 32)))
   atom_found = atom_as kind_cases.0 value_cases.0 kind_cases.1 value_cases.1 value_cases.2
 
 -- seven bytes and what stands behind them
@@ -229,15 +231,15 @@ module _ (s : List ℕ) (at : ℕ) (h : at + 7 ≤ length s) where
   abbrev byte_at : ℕ → ℕ
   byte_at i = get_or s (at + i) 0
 
-  pub operator_at : operator_bytes (get_or s at 0) (byte_at 1) ≡ true → CoreRecordFound (drop at s) (record_read.Found (found (byte_at 1) 0 0 2))
-  operator_at e = subst (λ (l : List ℕ). CoreRecordFound l (record_read.Found (found (byte_at 1) 0 0 2))) (sym (seven s at h)) (operator_found (get_or s at 0) (byte_at 1) _ e)
+  pub operator_at : (kind : Kind) → kind_number kind ≡ byte_at 1 → operator_bytes (get_or s at 0) (byte_at 1) ≡ true → CoreRecordFound (drop at s) (Ok (found kind 0 0 2))
+  operator_at kind is e = subst (λ (l : List ℕ). CoreRecordFound l (Ok (found kind 0 0 2))) (sym (seven s at h)) (operator_found (get_or s at 0) (byte_at 1) kind _ is e)
 
-  pub atom_at : Sliced s → {f : ℕ} → f ≡ byte_at 2 + 256 * (byte_at 3 + 256 * (byte_at 4 + 256 * byte_at 5))
+  pub atom_at : (kind : Kind) → kind_number kind ≡ byte_at 1 → Sliced s → {f : ℕ} → f ≡ byte_at 2 + 256 * (byte_at 3 + 256 * (byte_at 4 + 256 * byte_at 5))
       → atom_bytes (get_or s at 0) (byte_at 1) f (byte_at 6) ≡ true
-      → CoreRecordFound (drop at s) (record_read.Found (found (byte_at 1) f (get_or s at 0 / 32) (6 + get_or s at 0 / 32)))
-  atom_at each {f} is e =
-      subst (λ (l : List ℕ). CoreRecordFound l (record_read.Found (found (byte_at 1) f (get_or s at 0 / 32) (6 + get_or s at 0 / 32)))) (sym (seven s at h))
-      (atom_found (get_or s at 0) (byte_at 1) (byte_at 2) (byte_at 3) (byte_at 4) (byte_at 5) (byte_at 6) (drop (at + 7) s) bytes is e)
+      → CoreRecordFound (drop at s) (Ok (found kind f (get_or s at 0 / 32) (6 + get_or s at 0 / 32)))
+  atom_at kind named each {f} is e =
+      subst (λ (l : List ℕ). CoreRecordFound l (Ok (found kind f (get_or s at 0 / 32) (6 + get_or s at 0 / 32)))) (sym (seven s at h))
+      (atom_found (get_or s at 0) (byte_at 1) (byte_at 2) (byte_at 3) (byte_at 4) (byte_at 5) (byte_at 6) (drop (at + 7) s) bytes is kind named e)
     where
       bytes : Bytes (byte_at 2 ∷ byte_at 3 ∷ byte_at 4 ∷ byte_at 5 ∷ [])
       bytes = ((each (at + 2)).fits, ((each (at + 3)).fits, ((each (at + 4)).fits, ((each (at + 5)).fits, tt))))

@@ -8,6 +8,10 @@ use native.Mathlib.Omega.{arith}
 use lib.Dec.{leb, ltb}
 use lib.ListN.{length, drop, drop_of_length-le, length-drop}
 use lib.Seq.{drop-cons, drop-drop}
+use Rattle.std.specs.Prelude.{Result, Ok, Err}
+use Rattle.refusals.specs.Refusals.{number_of}
+use Rattle.refusals.specs.declared.Refusal.{Refusal}
+use Rattle.expr.specs.Kinds.{kind_number}
 use Rattle.literals.specs.Bits.{Bytes}
 use Rattle.literals.specs.Reading.{got}
 use Rattle.expr.specs.Answers.{Answer, ok, refuse, and_then, map_answer, need}
@@ -23,8 +27,6 @@ use Rattle.desugar.specs.CoreBytes.{core_record}
 use Rattle.cores.specs.Reading.{max_core, read_core_record, CoreNode, atom, unary, binary, core_node, Cores, due_behind, put_over, core_at, read_cores, whole_core, into_list, read_core}
 use Rattle.cores.specs.Results.{CoreRecordFound, widened, settled, counts_of}
 use Rattle.cores.specs.declared.records.CoreRecord.{CoreRecord}
-use Rattle.cores.specs.declared.records.RecordRead.{RecordRead}
-use Rattle.cores.specs.declared.records.RecordRead.TheVariants as record_read
 use Rattle.cores.proofs.CoreForm.{Wrote, core_only, written_node, node_is, sizes, node_wrote}
 
 pub bytes_drop : (n : ℕ) (s : List ℕ) → Bytes s → Bytes (drop n s)
@@ -206,10 +208,6 @@ judge_start s room = record { low = omega arith; inside = omega arith; few = ome
     go (ok r) = end r.0.0 r.1
     go (refuse r p) = refl
 
--- the record that was found
-found : {s : List ℕ} {r r' : RecordRead} → CoreRecordFound s r → r ≡ r' → CoreRecordFound s r'
-found {s} f e = subst (CoreRecordFound s) e f
-
 module _ {s : List ℕ} {room at due place : ℕ} {x : Answer ℕ} (j : Judging s room at due place x) where
   module _ (some : 0 < due) where
     -- due is no 0
@@ -227,37 +225,37 @@ module _ {s : List ℕ} {room at due place : ℕ} {x : Answer ℕ} (j : Judging 
           let more : max_core - place ≡ suc (max_core - (place + 1)) = omega arith in
           j.answer ∙ λ i. finished room (judged_from (more i) (one_more i) place x (drop at s))
 
-      pub judge_refused : {r : RecordRead} {n : ℕ} → CoreRecordFound (drop at s) r → r ≡ record_read.Refused n → refuse n place ≡ counts_of (read_core s room)
-      judge_refused f e =
-          sym (again ∙ ap (λ z. finished room (map_answer (behind (suc (due - 1)) place x) (core_at (read_cores (max_core - (place + 1))) (due - 1) place z))) (sym (found f e).answer))
+      pub judge_refused : (e : Refusal) → CoreRecordFound (drop at s) (Err e) → refuse (number_of e) place ≡ counts_of (read_core s room)
+      judge_refused e f =
+          sym (again ∙ ap (λ z. finished room (map_answer (behind (suc (due - 1)) place x) (core_at (read_cores (max_core - (place + 1))) (due - 1) place z))) (sym f.answer))
 
-      module _ (each : Sliced s) {r : RecordRead} {d : CoreRecord} (f : CoreRecordFound (drop at s) r) (e : r ≡ record_read.Found d) where
-        wrote : Wrote (drop at s) (core_record d.kind d.field d.value) (drop d.size (drop at s))
-        wrote = core_only (drop at s) _ _ (bytes_drop at s (bytes_each s each)) (sym (found f e).answer)
+      module _ (each : Sliced s) {d : CoreRecord} (f : CoreRecordFound (drop at s) (Ok d)) where
+        wrote : Wrote (drop at s) (core_record (kind_number d.kind) d.field d.value) (drop d.size (drop at s))
+        wrote = core_only (drop at s) _ _ (bytes_drop at s (bytes_each s each)) (sym f.answer)
 
         pub judge_bytes : (1 ≤ d.size) × (at + d.size ≤ length s)
-        judge_bytes = ((found f e).inside.0, omega (arith, (found f e).inside.1, length-drop at s, j.inside))
+        judge_bytes = (f.inside.0, omega (arith, f.inside.1, length-drop at s, j.inside))
 
-        pub judge_due : {n : ℕ} → n ≡ arity_of d.kind → due - 1 + n ≤ place + 2
+        pub judge_due : {n : ℕ} → n ≡ arity_of (kind_number d.kind) → due - 1 + n ≤ place + 2
         judge_due k =
             omega (
               arith,
               k,
               j.few,
-              due_is (sym (found f e).answer) wrote (due - 1),
-              due_small (core_node (core_record d.kind d.field d.value)) (due - 1),
+              due_is (sym f.answer) wrote (due - 1),
+              due_small (core_node (core_record (kind_number d.kind) d.field d.value)) (due - 1),
             )
 
-        pub judge_next : {n : ℕ} {y : Answer ℕ} → n ≡ arity_of d.kind → y ≡ widened x d.kind d.field place
+        pub judge_next : {n : ℕ} {y : Answer ℕ} → n ≡ arity_of (kind_number d.kind) → y ≡ widened x (kind_number d.kind) d.field place
             → Judging s room (at + d.size) (due - 1 + n) (place + 1) y
         judge_next {n} {y} k g =
-            let more : arity_of d.kind + (due - 1) ≡ due - 1 + n = omega (arith, k) in
+            let more : arity_of (kind_number d.kind) + (due - 1) ≡ due - 1 + n = omega (arith, k) in
             record {
               low = omega arith;
               inside = judge_bytes.1;
               few = omega (arith, judge_due k);
               answer =
-                  again ∙ ap (finished room) (judged_read (sym (found f e).answer) wrote (max_core - (place + 1)) (due - 1) place x)
+                  again ∙ ap (finished room) (judged_read (sym f.answer) wrote (max_core - (place + 1)) (due - 1) place x)
                   ∙ (λ i. finished room (judged_from (max_core - (place + 1)) (more i) (place + 1) (sym g i) (drop-drop d.size at s i)));
             }
 

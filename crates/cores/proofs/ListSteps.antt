@@ -6,6 +6,9 @@ use native.Mathlib.Nat.{zero-add}
 use native.Mathlib.Omega.{arith}
 use lib.ListN.{length, drop, drop_of_length-le, length-append, length-drop}
 use lib.Seq.{sets, length-sets, drop-drop}
+use Rattle.std.specs.Prelude.{Result, Ok, Err}
+use Rattle.refusals.specs.declared.Refusal.{Refusal}
+use Rattle.expr.specs.Kinds.{kind_number}
 use Rattle.literals.specs.Reading.{got}
 use Rattle.expr.specs.Answers.{Answer, ok, refuse, and_then, map_answer}
 use Rattle.expr.specs.Terms.{Atom, Zero, One, Top, Dup, End, Assign, Test, Core, Plain, atom_kind, op1_kind, op2_kind, size}
@@ -20,8 +23,6 @@ use Rattle.desugar.proofs.RecordBytes.{sets_front}
 use Rattle.cores.specs.Reading.{max_core, CoreNode, atom, unary, binary, core_node, Cores, due_behind, put_over, core_at, read_cores, whole_core, decode_core}
 use Rattle.cores.specs.Results.{CoreRecordFound, Listable, Listed}
 use Rattle.cores.specs.declared.records.CoreRecord.{CoreRecord}
-use Rattle.cores.specs.declared.records.RecordRead.{RecordRead}
-use Rattle.cores.specs.declared.records.RecordRead.TheVariants as record_read
 use Rattle.cores.proofs.CoreForm.{Wrote, core_only, written_node, decode_only, node_wrote}
 use Rattle.cores.proofs.JudgeSteps.{bytes_drop}
 
@@ -85,15 +86,15 @@ record Next (s : List ℕ) (at due : ℕ) (cs : Cores due) (d : CoreRecord) : Ty
   place_now : ℕ
   cores_now : Cores due_now
   reads : Reads s (at + d.size) left_now due_now place_now cores_now
-  numbers : words_of due cs ≡ d.kind ∷ d.field ∷ d.value ∷ words_of due_now cores_now
+  numbers : words_of due cs ≡ (kind_number d.kind) ∷ d.field ∷ d.value ∷ words_of due_now cores_now
 
 module _ (s : List ℕ) (at : ℕ) (lt : at < length s) where
   some_left : drop at s ≡ [] → ⊥
   some_left e = omega (arith, ap length e, length-drop at s)
 
-  module _ {d : CoreRecord} (each : Sliced s) (f : CoreRecordFound (drop at s) (record_read.Found d)) where
+  module _ {d : CoreRecord} (each : Sliced s) (f : CoreRecordFound (drop at s) (Ok d)) where
     abbrev h : Record
-    h = core_record d.kind d.field d.value
+    h = core_record (kind_number d.kind) d.field d.value
 
     wrote : Wrote (drop at s) h (drop d.size (drop at s))
     wrote = core_only (drop at s) _ _ (bytes_drop at s (bytes_each s each)) (sym f.answer)
@@ -122,7 +123,7 @@ module _ (s : List ℕ) (at : ℕ) (lt : at < length s) where
     next zero (suc due) place cs e = let z : ◌≡◌ {A = ℕ} 0 1 = cc in absurd (omega arith)
     next (suc left) (suc due) place cs e = next_read left due place cs (ap (core_at (read_cores left) due place) f.answer ∙ e)
 
-  never : {n : ℕ} → CoreRecordFound (drop at s) (record_read.Refused n) → (left due place : ℕ) (cs : Cores due) → Reads s at left due place cs → ⊥
+  never : {r : Refusal} → CoreRecordFound (drop at s) (Err r) → (left due place : ℕ) (cs : Cores due) → Reads s at left due place cs → ⊥
   never f zero zero place cs e = some_left (ap rest_of e)
   never f (suc left) zero place cs e = some_left (ap rest_of e)
   never f zero (suc due) place cs e = let z : ◌≡◌ {A = ℕ} 0 1 = cc in omega arith
@@ -188,14 +189,11 @@ module _ {s list₀ list : List ℕ} {at to : ℕ} (l : Listing s list₀ list a
   all_long : 3 * size l.core ≡ length l.done + length (words_of l.due l.cores)
   all_long = sym (length_words l.core) ∙ ap length l.split ∙ length-append l.done (words_of l.due l.cores)
 
-  module _ (lt : at < length s) {r : RecordRead} (f : CoreRecordFound (drop at s) r) where
-    pub list_never : {n : ℕ} → r ≡ record_read.Refused n → ⊥
-    list_never e = never s at lt (subst (CoreRecordFound (drop at s)) e f) l.left l.due l.place l.cores l.reads
+  module _ (lt : at < length s) where
+    pub list_never : {r : Refusal} → CoreRecordFound (drop at s) (Err r) → ⊥
+    list_never f = never s at lt f l.left l.due l.place l.cores l.reads
 
-    module _ (each : Sliced s) {d : CoreRecord} (e : r ≡ record_read.Found d) where
-      found : CoreRecordFound (drop at s) (record_read.Found d)
-      found = subst (CoreRecordFound (drop at s)) e f
-
+    module _ (each : Sliced s) {d : CoreRecord} (found : CoreRecordFound (drop at s) (Ok d)) where
       nx : Next s at l.due l.cores d
       nx = next s at lt each found l.left l.due l.place l.cores l.reads
 
@@ -205,9 +203,9 @@ module _ {s list₀ list : List ℕ} {at to : ℕ} (l : Listing s list₀ list a
       pub list_room : (to + 3 ≤ length list) × (to + 3 ≤ 3 * max_core)
       list_room = omega (arith, l.count, l.few, l.room, list_long, all_long, ap length nx.numbers)
 
-      pub list_next : {list' : List ℕ} → list' ≡ sets list to (d.kind ∷ d.field ∷ d.value ∷ []) → Listing s list₀ list' (at + d.size) (to + 3)
+      pub list_next : {list' : List ℕ} → list' ≡ sets list to (kind_number d.kind ∷ d.field ∷ d.value ∷ []) → Listing s list₀ list' (at + d.size) (to + 3)
       list_next put =
-          let three : List ℕ = d.kind ∷ d.field ∷ d.value ∷ [] in
+          let three : List ℕ = (kind_number d.kind) ∷ d.field ∷ d.value ∷ [] in
           record {
             core = l.core;
             is = l.is;

@@ -1,36 +1,37 @@
 -- What the functions of this crate answer, in the words of the definitions.
 use mathlib.Core.{Path.◌≡◌, Bool.Bool, Bool.true, Bool.false, Bool.cond, Bool.◌&&◌, Bool.◌||◌, List.List, List.◌++◌}
-use Rattle.std.specs.Prelude.{ℕ, ◌+◌, ◌*◌, ◌^◌, ◌≤◌, max}
+use Rattle.std.specs.Prelude.{ℕ, ◌+◌, ◌*◌, ◌^◌, ◌≤◌, max, Result, Ok, Err, Option, IfSome}
 use lib.{Dec.leb, Dec.ltb, Dec.eqb, ListN.length, ListN.drop}
 use Rattle.literals.specs.{Reading.Read, Reading.got, Reading.fault}
-use Rattle.expr.specs.{Answers.Answer, Answers.ok, Answers.refuse, Answers.and_then, Answers.map_answer, Answers.need, Answers.buffer_after, Terms.Core, Terms.size, Records.Record, Records.stands}
+use Rattle.expr.specs.{Answers.Answer, Answers.answered, Answers.ok, Answers.and_then, Answers.map_answer, Answers.need, Answers.buffer_after, Terms.Core, Terms.size, Records.Record, Records.stands}
 use Rattle.desugar.specs.{CoreRecords.words, CoreBytes.core_record}
 use Rattle.cores.specs.{Reading.read_core_record, Reading.decode_core, Reading.read_core}
+use Rattle.refusals.specs.Refusals.{number_of}
+use Rattle.refusals.specs.declared.Refusal.{Refusal}
+use Rattle.refusals.specs.declared.Refused.{Refused}
+use Rattle.expr.specs.Kinds.{kind_number}
 use Rattle.cores.specs.declared.records.CoreRecord.{CoreRecord}
-use Rattle.cores.specs.declared.records.RecordRead.{RecordRead}
-use Rattle.cores.specs.declared.records.RecordRead.TheVariants as record_read
-use Rattle.cores.specs.declared.CoreRead.{CoreRead}
-use Rattle.cores.specs.declared.CoreRead.TheVariants as read
+use Rattle.cores.specs.declared.Counts.{Counts}
 
 -- ## One record
 
 -- a record that was read from the bytes s, and the bytes behind it; or the refusal's number
-abbrev pub record_answer : List ℕ → RecordRead → Read Record
-record_answer s (record_read.Found d) = got (core_record d.kind d.field d.value) (drop d.size s)
-record_answer s (record_read.Refused r) = fault r
+abbrev pub record_answer : List ℕ → Result CoreRecord Refusal → Read Record
+record_answer s (Ok d) = got (core_record (kind_number d.kind) d.field d.value) (drop d.size s)
+record_answer s (Err e) = fault (number_of e)
 
 -- it lies inside the bytes, and has at least its map byte
-abbrev pub RecordInside : List ℕ → RecordRead → Type 0
-RecordInside s (record_read.Found d) = (1 ≤ d.size) × (d.size ≤ length s)
-RecordInside s (record_read.Refused r) = Unit {0}
+abbrev pub RecordInside : List ℕ → Result CoreRecord Refusal → Type 0
+RecordInside s (Ok d) = (1 ≤ d.size) × (d.size ≤ length s)
+RecordInside s (Err e) = Unit {0}
 
-pub record CoreRecordFound (s : List ℕ) (r : RecordRead) : Type 0 where
+pub record CoreRecordFound (s : List ℕ) (r : Result CoreRecord Refusal) : Type 0 where
   pub answer : record_answer s r ≡ read_core_record s
   pub inside : RecordInside s r
 
--- a record that stands at the front of the bytes, if it has a size
-abbrev pub ShortFound : List ℕ → CoreRecord → Type 0
-ShortFound s d = 1 ≤ d.size → CoreRecordFound s (record_read.Found d)
+-- a record that stands at the front of the bytes, if one was found
+abbrev pub ShortFound : List ℕ → Option CoreRecord → Type 0
+ShortFound s r = IfSome r λ d. CoreRecordFound s (Ok d)
 
 -- the map and the kind of an operator, kinds 7 to 15
 abbrev pub operator_bytes : ℕ → ℕ → Bool
@@ -56,13 +57,8 @@ settled n x room = and_then x λ m. and_then (need (leb (3 * n) room) 10 0) λ _
 abbrev pub counts_of : Answer (Core × ℕ) → Answer (ℕ × ℕ)
 counts_of x = map_answer (λ p. (size p.0, p.1)) x
 
-abbrev pub core_answer : CoreRead → Answer (ℕ × ℕ)
-core_answer (read.Found d) = ok (d.count, d.fields)
-core_answer (read.Refused r at) = refuse r at
-
-abbrev pub is_found : CoreRead → Bool
-is_found (read.Found d) = true
-is_found (read.Refused r at) = false
+abbrev pub core_answer : Result Counts Refused → Answer (ℕ × ℕ)
+core_answer r = map_answer (λ d. (d.count, d.fields)) (answered r)
 
 -- a core of good form, and room for its records
 pub record Listable (s list : List ℕ) : Type 0 where
@@ -75,6 +71,6 @@ abbrev pub Listed : (s list list' : List ℕ) → Type 0
 Listed s list list' = (c : Core) → decode_core s ≡ ok c → list' ≡ words c ++ drop (length (words c)) list
 
 -- what is answered, and the list after the call
-pub record ReadsBack (s list list' : List ℕ) (r : CoreRead) : Type 0 where
+pub record ReadsBack (s list list' : List ℕ) (r : Result Counts Refused) : Type 0 where
   pub answer : core_answer r ≡ counts_of (read_core s (length list))
   pub after : list' ≡ buffer_after (map_answer (λ p. words p.0) (read_core s (length list))) list

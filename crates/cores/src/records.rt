@@ -3,21 +3,16 @@ ghost use Rattle.std.specs.Prelude.{◌≡◌, ◌+◌, ◌*◌, ◌≤◌, leng
 ghost use Rattle.cores.specs.Reading.{term_kind};
 ghost use Rattle.cores.specs.Results.{operator_bytes, atom_bytes, CoreRecordFound, ShortFound};
 
-use expr::records::HeadRead;
+use expr::kind::Kind;
+use refusals::Refusal;
 
 // A record that was read, and its length in bytes.
-#[derive(Clone, Copy)]
+#[derive(Clone, Copy, Debug, PartialEq, Eq)]
 pub struct CoreRecord {
-    pub kind: u8,
+    pub kind: Kind,
     pub field: u32,
     pub value: u32,
     pub size: usize,
-}
-
-#[derive(Clone, Copy)]
-pub enum RecordRead {
-    Found(CoreRecord),
-    Refused(u8),
 }
 
 // Whether the record at the front of the bytes has a kind from 16 to 26.
@@ -33,17 +28,14 @@ fn is_term_kind(s: &[u8]) -> bool
 }
 
 // The record at the front of the bytes, by the reader of terms: 41 where it is a term's and no core's.
-fn read_any(s: &[u8]) -> RecordRead
+fn read_any(s: &[u8]) -> Result<CoreRecord, Refusal>
     ensures { CoreRecordFound s.now result }
 {
     if is_term_kind(s) {
-        return RecordRead::Refused(41);
+        return Err(Refusal::TermKind);
     }
-    let head = match expr::records::read_record(s) {
-        HeadRead::Refused(number) => return RecordRead::Refused(number),
-        HeadRead::Found(head) => head,
-    };
-    RecordRead::Found(CoreRecord {
+    let head = expr::records::read_record(s)?;
+    Ok(CoreRecord {
         kind: head.kind,
         field: head.start,
         value: head.number,
@@ -51,7 +43,7 @@ fn read_any(s: &[u8]) -> RecordRead
     })
 }
 
-// Whether these are the map and the kind of an operator.
+// Whether these are the map and the kind of an operator: bytes, and no kind yet.
 pub fn is_operator(map: u8, kind: u8) -> bool
     ensures { result ≡ operator_bytes map kind }
 {
@@ -72,53 +64,50 @@ pub fn number_of(a: u8, b: u8, c: u8, d: u8) -> u32
     a as u32 + 256 * (b as u32 + 256 * (c as u32 + 256 * (d as u32)))
 }
 
-// An operator or an atom on a field, which are nearly all records, by its first bytes; of size 0 where there is none of these at the index.
-pub fn read_short(s: &[u8], at: usize) -> CoreRecord
+// An operator or an atom on a field, which are nearly all records, by its first bytes, if one of these stands at the index.
+pub fn read_short(s: &[u8], at: usize) -> Option<CoreRecord>
     requires { at ≤ length s.now }
     ensures { ShortFound (drop at s.now) result }
 {
-    let none = CoreRecord {
-        kind: 0,
-        field: 0,
-        value: 0,
-        size: 0,
-    };
     if s.len() - at < 7 {
-        return none;
+        return None;
     }
     let map = s[at];
     let kind = s[at + 1];
     if is_operator(map, kind) {
-        return CoreRecord {
-            kind,
+        return Some(CoreRecord {
+            kind: Kind::try_from(kind).ok()?,
             field: 0,
             value: 0,
             size: 2,
-        };
+        });
     }
     let field = number_of(s[at + 2], s[at + 3], s[at + 4], s[at + 5]);
     if !is_atom(map, kind, field, s[at + 6]) {
-        return none;
+        return None;
     }
     let value = map / 32;
-    CoreRecord {
-        kind,
+    Some(CoreRecord {
+        kind: Kind::try_from(kind).ok()?,
         field,
         value: value as u32,
         size: 6 + value as usize,
-    }
+    })
 }
 
 // The record at an index, where read_short found it or not. Two functions, because the compiler puts both into each loop that reads
 // records, and would put in neither if they were one.
-pub fn read_core_record(short: CoreRecord, s: &[u8], at: usize) -> RecordRead
-    requires at_in_bounds { at ≤ length s.now }
+pub fn read_core_record(
+    short: Option<CoreRecord>,
+    s: &[u8],
+    at: usize,
+) -> Result<CoreRecord, Refusal>
+    requires inside { at ≤ length s.now }
     requires short_found { ShortFound (drop at s.now) short }
     ensures { CoreRecordFound (drop at s.now) result }
 {
-    let size = short.size;
-    if size == 0 {
-        return read_any(&s[at..]);
+    match short {
+        Some(record) => Ok(record),
+        None => read_any(&s[at..]),
     }
-    RecordRead::Found(short)
 }

@@ -7,10 +7,14 @@ use native.Mathlib.Omega.{arith}
 use borrow.Author.Tests.{ne_eqb}
 use lib.Dec.{leb}
 use lib.ListN.{length, take, drop, get_or-eq_default}
+use Rattle.std.specs.Prelude.{Ok, Err}
+use Rattle.refusals.specs.Refusals.{number_of}
+use Rattle.refusals.specs.declared.Refusal.{Refusal}
+use Rattle.literals.specs.declared.BitSlice.{BitSlice}
 use Rattle.literals.specs.Bits.{Bits, unpack}
 use Rattle.literals.specs.Patterns.{Cidr, Exact, IpRange, Pattern, Wildcard}
 use Rattle.literals.specs.Reading.{got, fault, lent, bytes_for}
-use Rattle.literals.specs.Results.{lent_answer}
+use Rattle.literals.specs.Results.{literal_bits, LentFound}
 use Rattle.literals.proofs.Values.{lent_whole}
 use Rattle.expr.specs.Answers.{Answer, and_then, map_answer, ok, refuse}
 use Rattle.expr.specs.Terms.{Direct, Matches, size}
@@ -30,11 +34,8 @@ module _ (p : Pattern) (s e : ℕ) where
   abbrev rule : Answer (Unit {0})
   rule = range_rule (Direct s e) (Matches p) (s, e) 0
 
-  pub cost_refused : {r : ℕ} → (r ≡ 0 → ⊥) → rule_answer r 0 ≡ rule → refuse r 0 ≡ cost p s e 0
-  cost_refused {r} h k = ap (λ (x : Answer (Unit {0})). and_then x (λ _. ok (pattern_cost p (e - s)))) (ap (λ b. cond b (ok tt) (refuse r 0)) (sym (ne_eqb r 0 h)) ∙ k)
-
-  pub cost_kept : {r : ℕ} → r ≡ 0 → rule_answer r 0 ≡ rule → rule ≡ ok tt
-  cost_kept h k = sym k ∙ ap (λ m. rule_answer m 0) h
+  pub cost_refused : {r : ℕ} → refuse r 0 ≡ rule → refuse r 0 ≡ cost p s e 0
+  cost_refused k = ap (λ (x : Answer (Unit {0})). and_then x (λ _. ok (pattern_cost p (e - s)))) k
 
   pub cost_counted : {n m : ℕ} → rule ≡ ok tt → n ≡ e - s → m ≡ size (use_core (Matches p) s n) → ok m ≡ cost p s e 0
   cost_counted k f g =
@@ -44,14 +45,16 @@ module _ (p : Pattern) (s e : ℕ) where
 -- ## A lent literal
 
 module _ (bs : List ℕ) (n : ℕ) where
-  pub literal_refused : {r : ℕ} → (r ≡ 0 → ⊥) → lent_answer bs n r ≡ lent n bs → lent_literal (bs, n) ≡ refuse r 0
-  literal_refused {r} h k = ap placed (sym k ∙ ap (λ b. cond b (got (take n (unpack bs)) (drop (bytes_for n) bs)) (fault r)) (ne_eqb r 0 h))
+  pub literal_refused : (r : Refusal) → LentFound n bs (Err r) → lent_literal (bs, n) ≡ refuse (number_of r) 0
+  literal_refused r f = ap placed (sym f.answer)
 
-  pub literal_kept : {r : ℕ} → r ≡ 0 → lent_answer bs n r ≡ lent n bs → lent_literal (bs, n) ≡ ok (take n (unpack bs))
-  literal_kept h k = ap placed (sym k ∙ ap (lent_answer bs n) h)
+  pub literal_kept : (l : BitSlice) → LentFound n bs (Ok l) → lent_literal (bs, n) ≡ ok (literal_bits l)
+  literal_kept l f = ap placed (sym f.answer)
 
-  pub literal_whole : {r : ℕ} → r ≡ 0 → lent_answer bs n r ≡ lent n bs → length (take n (unpack bs)) ≡ n
-  literal_whole h k = lent_whole bs n (sym k ∙ ap (lent_answer bs n) h)
+  pub literal_whole : (l : BitSlice) → LentFound n bs (Ok l) → length (literal_bits l) ≡ l.len
+  literal_whole l f =
+      let same : literal_bits l ≡ take n (unpack bs) = λ i. take (f.same.0 i) (unpack (f.same.1 i)) in
+      ap length same ∙ lent_whole bs n (sym f.answer) ∙ sym f.same.0
 
 -- ## A lent pattern
 
@@ -89,9 +92,9 @@ module _ (s e p k : ℕ) (a : List ℕ) (n : ℕ) (b : List ℕ) (m : ℕ) where
     pub lent_first : {r : ℕ} → lent_literal (a, n) ≡ refuse r 0 → refuse r 0 ≡ lent_cost s e p k (a, n) (b, m)
     lent_first h = sym (opened ∙ ap (λ x. rest x (lent_literal (b, bits))) h)
 
-    pub lent_second : {r : ℕ} → lent_literal (a, n) ≡ ok (take n (unpack a)) → lent_literal (b, bits) ≡ refuse r 0 → refuse r 0 ≡ lent_cost s e p k (a, n) (b, m)
+    pub lent_second : {r : ℕ} {x : Bits} → lent_literal (a, n) ≡ ok x → lent_literal (b, bits) ≡ refuse r 0 → refuse r 0 ≡ lent_cost s e p k (a, n) (b, m)
     lent_second h g = sym (opened ∙ λ i. rest (h i) (g i))
 
-    pub lent_both : lent_literal (a, n) ≡ ok (take n (unpack a)) → lent_literal (b, bits) ≡ ok (take bits (unpack b))
-        → {x : Answer ℕ} → x ≡ cost (pattern_with p k (take n (unpack a)) (take bits (unpack b))) s e 0 → x ≡ lent_cost s e p k (a, n) (b, m)
+    pub lent_both : {u v : Bits} → lent_literal (a, n) ≡ ok u → lent_literal (b, bits) ≡ ok v
+        → {x : Answer ℕ} → x ≡ cost (pattern_with p k u v) s e 0 → x ≡ lent_cost s e p k (a, n) (b, m)
     lent_both h g t = t ∙ sym (opened ∙ λ i. rest (h i) (g i))

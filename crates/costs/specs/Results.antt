@@ -1,14 +1,14 @@
 -- What the functions of this crate answer, in the words of the definitions.
-use Rattle.std.specs.Prelude.{ℕ}
+use Rattle.std.specs.Prelude.{ℕ, Result, Ok, Err}
+use Rattle.refusals.specs.Refusals.{number_of}
+use Rattle.refusals.specs.declared.Refusal.{Refusal}
 use Rattle.literals.specs.{Bits.Bits, Patterns.Pattern}
 use Rattle.expr.specs.{Answers.Answer, Answers.ok, Answers.refuse, Form.pattern_of}
-use Rattle.costs.specs.declared.Costed.{Costed}
-use Rattle.costs.specs.declared.Costed.TheVariants.{Nodes, Refused}
 
 -- the node count, or the refusal's number at place 0
-abbrev pub cost_answer : Costed → Answer ℕ
-cost_answer (Nodes n) = ok n
-cost_answer (Refused r) = refuse r 0
+abbrev pub cost_answer : Result ℕ Refusal → Answer ℕ
+cost_answer (Ok n) = ok n
+cost_answer (Err e) = refuse (number_of e) 0
 
 -- the pattern of a match with this number, prefix and literals
 abbrev pub pattern_with : (pattern number : ℕ) → Bits → Bits → Pattern

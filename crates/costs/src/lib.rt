@@ -1,71 +1,50 @@
 // What a pattern will cost: how many nodes the core of its match has, without making one.
 #![tactic(auto)]
 
-ghost use Rattle.std.specs.Prelude.{◌≡◌, cond, leb, length, take};
-ghost use Rattle.literals.specs.Bits.{unpack};
+ghost use Rattle.std.specs.Prelude.{◌≡◌, cond, leb, length};
+ghost use Rattle.literals.specs.Results.{literal_bits};
+ghost use Rattle.expr.specs.Kinds.{pattern_number};
 ghost use Rattle.desugar.specs.Costs.{cost};
 ghost use Rattle.costs.specs.Lent.{lent_cost};
 ghost use Rattle.costs.specs.Results.{cost_answer, pattern_with};
 
-use expr::records::Head;
-use literals::Literal;
-
-// The node count, or the number of the refusal.
-#[derive(Clone, Copy)]
-pub enum Costed {
-    Nodes(u64),
-    Refused(u8),
-}
+use desugar::Fields;
+use desugar::ranged::Use;
+use expr::kind::{Kind, Pattern};
+use literals::BitSlice;
+use refusals::Refusal;
 
 // How many bits of literal B a pattern has: Exact and Cidr have none.
-fn second_bits(pattern: u32, bits: u32) -> u32
-    ensures { result ≡ cond (leb 2 pattern) bits 0 }
+fn second_bits(pattern: Pattern, bits: u32) -> u32
+    ensures { result ≡ cond (leb 2 (pattern_number pattern)) bits 0 }
 {
-    if 2 <= pattern {
-        return bits;
+    match pattern {
+        Pattern::Exact | Pattern::Cidr => 0,
+        Pattern::Wildcard | Pattern::IpRange => bits,
     }
-    0
 }
 
-// The cost of a match on the fields from `start` up to `end`: the rules, then the size that desugaring draws.
+// The cost of a match on fields: the rules, then the size that desugaring draws.
 fn match_cost(
-    start: u32,
-    end: u32,
-    pattern: u32,
+    fields: Fields,
+    pattern: Pattern,
     number: u32,
-    a: &[u8],
-    a_bits: usize,
-    b: &[u8],
-    b_bits: usize,
-) -> Costed
-    requires { (length (take a_bits (unpack a.now)) ≡ a_bits) × (length (take b_bits (unpack b.now)) ≡ b_bits) }
-    ensures { cost_answer result ≡ cost (pattern_with pattern number (take a_bits (unpack a.now)) (take b_bits (unpack b.now))) «start» «end» 0 }
+    a: BitSlice<'_>,
+    b: BitSlice<'_>,
+) -> Result<u64, Refusal>
+    requires { (length (literal_bits a) ≡ a.len) × (length (literal_bits b) ≡ b.len) }
+    ensures { cost_answer result ≡ cost (pattern_with (pattern_number pattern) number (literal_bits a.entry) (literal_bits b.entry)) fields.start fields.end 0 }
 {
-    let head = Head {
-        kind: 25,
-        name: 0,
-        start,
-        end,
+    let matched = Use {
+        kind: Kind::BitRangeMatch,
         pattern,
         number,
-        a: Literal {
-            at: 0,
-            bits: a_bits,
-            next: 0,
-        },
-        b: Literal {
-            at: 0,
-            bits: b_bits,
-            next: 0,
-        },
-        size: 0,
+        a,
+        b,
     };
-    let rule = desugar::rules::range_rule(head, a, b, start, end);
-    if rule != 0 {
-        return Costed::Refused(rule);
-    }
-    let n = (end - start) as usize;
-    Costed::Nodes(desugar::ranged::use_size(head, a, b, n))
+    desugar::rules::range_rule(matched, fields)?;
+    let n = (fields.end - fields.start) as usize;
+    Ok(desugar::ranged::use_size(matched, n))
 }
 
 // The cost of a pattern that a host lends, on the fields from `start` up to `end`.
@@ -78,29 +57,14 @@ pub fn pattern_cost(
     a_bits: u32,
     b: &[u8],
     b_bits: u32,
-) -> Costed
+) -> Result<u64, Refusal>
     ensures { cost_answer result ≡ lent_cost «start» «end» pattern number (a.now, a_bits) (b.now, b_bits) }
 {
     if 3 < pattern {
-        return Costed::Refused(5);
+        return Err(Refusal::OutOfRange);
     }
-    let first = literals::lent_refusal(a, a_bits);
-    if first != 0 {
-        return Costed::Refused(first);
-    }
-    let bits = second_bits(pattern, b_bits);
-    let second = literals::lent_refusal(b, bits);
-    if second != 0 {
-        return Costed::Refused(second);
-    }
-    match_cost(
-        start,
-        end,
-        pattern,
-        number,
-        a,
-        a_bits as usize,
-        b,
-        bits as usize,
-    )
+    let pattern = Pattern::try_from(pattern as u8)?;
+    let first = BitSlice::lent(a, a_bits)?;
+    let second = BitSlice::lent(b, second_bits(pattern, b_bits))?;
+    match_cost(Fields { start, end }, pattern, number, first, second)
 }

@@ -1,21 +1,19 @@
 -- The records of a range of values, and how many they are.
 use mathlib.Core.Path.{◌∙◌, ◌≡◌, ap, refl, sym}
-use mathlib.Core.Bool.{Bool, cond, false, true}
+use mathlib.Core.Bool.{Bool, false, true}
 use mathlib.Core.List.{List, [], ◌∷◌}
 use Prim.Native.Nat.{◌*◌, ◌+◌, ◌^◌, ◌≤◌, ℕ}
 use native.Mathlib.Omega.{arith}
-use borrow.Author.Tests.{ltb-true, ne_eqb}
-use lib.Dec.{eqb, ltb}
-use lib.ListN.{length, length-take, take}
+use lib.Dec.{eqb}
+use lib.ListN.{length, length-take}
 use lib.Seq.{sets}
 use Rattle.literals.proofs.Bits.{value_of_pad}
-use Rattle.literals.proofs.Comparing.{is_equal}
-use Rattle.literals.specs.Bits.{Bits, value_of}
-use Rattle.literals.specs.Comparing.{order_of}
-use Rattle.literals.specs.declared.Order.TheVariants.{Above, Below, Equal}
+use Rattle.literals.specs.Bits.{Bits, unpack, value_of}
+use Rattle.literals.specs.Results.{literal_bits}
+use Rattle.literals.specs.declared.BitSlice.{BitSlice}
 use Rattle.expr.specs.Terms.{Core, Intersect, Test, size, two}
 use Rattle.desugar.specs.Costs.{between_case_size, between_size}
-use Rattle.desugar.specs.LeafWords.{stretch}
+use Rattle.desugar.specs.LeafWords.{Widths, stretch}
 use Rattle.desugar.specs.Leaves.{between, between_case}
 use Rattle.desugar.specs.Memory.{words}
 use Rattle.desugar.proofs.BoundWords.{size_bound}
@@ -36,55 +34,39 @@ size_between s a b = size_case (eqb (value_of a) (value_of b)) (eqb (value_of a)
 
 -- ## Which case it is
 
-pub order_equal : (x y : ℕ) → is_equal (order_of x y) ≡ eqb x y
-order_equal x y = go (ltb x y) (eqb x y) (λ e. ne_eqb x y (λ f. omega (arith, ltb-true x y e)))
-  where
-    go : (p q : Bool) → (p ≡ true → q ≡ false) → is_equal (cond p Below (cond q Equal Above)) ≡ q
-    go true q h = sym (h refl)
-    go false true h = refl
-    go false false h = refl
-
-pub short : (n w : ℕ) (a : Bits) → n ≤ w → length (take n a) ≤ w
-short n w a h = omega (arith, length-take n a)
-
 -- padding leaves the values as they are
-value_of_stretch : (n w : ℕ) (a : Bits) → n ≤ w → value_of (stretch (take n a) 0 w) ≡ value_of (take n a)
-value_of_stretch n w a h = ap value_of (stretch_pad (take n a) w (short n w a h)) ∙ value_of_pad w (take n a)
+value_of_stretch : (l : BitSlice) {w : ℕ} → l.len ≤ w → value_of (stretch (literal_bits l) 0 w) ≡ value_of (literal_bits l)
+value_of_stretch l {w} h =
+    let short : length (literal_bits l) ≤ w = omega (arith, length-take l.len (unpack l.bytes.now)) in
+    ap value_of (stretch_pad (literal_bits l) w short) ∙ value_of_pad w (literal_bits l)
 
--- the size by whether the bounds are equal
-pub between_size_by : (m n w : ℕ) (a b : Bits) → m ≤ w → n ≤ w → {x : Bool} → x ≡ eqb (value_of (take m a)) (value_of (take n b))
-    → between_case_size x (eqb (value_of (stretch (take m a) 0 w)) 0) (eqb (value_of (stretch (take n b) 0 w) + 1) (2 ^ length (stretch (take n b) 0 w))) (stretch (take m a) 0 w) (stretch (take n b) 0 w)
-    ≡ between_size (stretch (take m a) 0 w) (stretch (take n b) 0 w)
-between_size_by m n w a b h k same =
-    let lower : Bits = stretch (take m a) 0 w in
-    let upper : Bits = stretch (take n b) 0 w in
-    let values : _ ≡ eqb (value_of lower) (value_of upper) = same ∙ λ i. eqb (sym (value_of_stretch m w a h) i) (sym (value_of_stretch n w b k) i) in
-    λ i. between_case_size (values i) (eqb (value_of lower) 0) (eqb (value_of upper + 1) (2 ^ length upper)) lower upper
-
--- the three tests of a range of values from that of the bits a, of which there are m, to that of the bits b, of which there are n
-module _ (m n w : ℕ) (a b : Bits) (h : m ≤ w) (k : n ≤ w) {x low high : Bool}
-    (same : x ≡ eqb (value_of (take m a)) (value_of (take n b))) (zero : low ≡ eqb (value_of (take m a)) 0)
-    (top : high ≡ eqb (value_of (take n b) + 1) (2 ^ w)) where
+-- the tests of a range of w bits from one literal to another
+module _ (w : ℕ) (low high : BitSlice) (fits : Widths low.len high.len w) {x : Bool} (same : x ≡ eqb (value_of (literal_bits low)) (value_of (literal_bits high))) where
   abbrev lower : Bits
-  lower = stretch (take m a) 0 w
+  lower = stretch (literal_bits low) 0 w
 
   abbrev upper : Bits
-  upper = stretch (take n b) 0 w
+  upper = stretch (literal_bits high) 0 w
 
   values_same : x ≡ eqb (value_of lower) (value_of upper)
-  values_same = same ∙ (λ i. eqb (sym (value_of_stretch m w a h) i) (sym (value_of_stretch n w b k) i))
+  values_same = same ∙ (λ i. eqb (sym (value_of_stretch low fits.low_fits) i) (sym (value_of_stretch high fits.high_fits) i))
 
-  value_zero : low ≡ eqb (value_of lower) 0
-  value_zero = zero ∙ ap (λ v. eqb v 0) (sym (value_of_stretch m w a h))
+  -- the size by whether the bounds are equal
+  pub between_size_by : between_case_size x (eqb (value_of lower) 0) (eqb (value_of upper + 1) (2 ^ length upper)) lower upper ≡ between_size lower upper
+  between_size_by = λ i. between_case_size (values_same i) (eqb (value_of lower) 0) (eqb (value_of upper + 1) (2 ^ length upper)) lower upper
 
-  value_top : high ≡ eqb (value_of upper + 1) (2 ^ length upper)
-  value_top = top ∙ (λ i. eqb (sym (value_of_stretch n w b k) i + 1) (2 ^ sym (length_stretch (take n b) 0 w) i))
+  module _ {y z : Bool} (zero : y ≡ eqb (value_of (literal_bits low)) 0) (top : z ≡ eqb (value_of (literal_bits high) + 1) (2 ^ w)) where
+    value_zero : y ≡ eqb (value_of lower) 0
+    value_zero = zero ∙ ap (λ v. eqb v 0) (sym (value_of_stretch low fits.low_fits))
 
-  pub between_is : (s : ℕ) → between_case x low high s lower upper ≡ between s lower upper
-  between_is s = λ i. between_case (values_same i) (value_zero i) (value_top i) s lower upper
+    value_top : z ≡ eqb (value_of upper + 1) (2 ^ length upper)
+    value_top = top ∙ (λ i. eqb (sym (value_of_stretch high fits.high_fits) i + 1) (2 ^ sym (length_stretch (literal_bits high) 0 w) i))
 
-  pub between_size_is : between_case_size x low high lower upper ≡ between_size lower upper
-  between_size_is = λ i. between_case_size (values_same i) (value_zero i) (value_top i) lower upper
+    pub between_is : (s : ℕ) → between_case x y z s lower upper ≡ between s lower upper
+    between_is s = λ i. between_case (values_same i) (value_zero i) (value_top i) s lower upper
+
+    pub between_size_is : between_case_size x y z lower upper ≡ between_size lower upper
+    between_size_is = λ i. between_case_size (values_same i) (value_zero i) (value_top i) lower upper
 
 -- ## Both bounds, one behind the other
 

@@ -16,7 +16,7 @@ use Rattle.desugar.specs.Leaves.{bound, chain, differences, high_first}
 use Rattle.desugar.specs.Memory.{words, size_all, Holds, Kept}
 use Rattle.desugar.specs.declared.leaves.Progress.{Progress}
 use Rattle.desugar.proofs.Chains.{length_linked, length_stretch, link_last, link_more, linked_append, size_chain, sizes_append, words_chain}
-use Rattle.desugar.proofs.Regions.{left, moved, none, sets_append, sets_is, stored, under}
+use Rattle.desugar.proofs.Regions.{left, moved, sets_append, sets_is, stored, under}
 
 -- ## Sizes
 
@@ -55,15 +55,6 @@ size_bound d s a =
 
 -- ## From the highest bit down
 
-stretch_none : (a : Bits) (w : ℕ) → stretch a w (w - w) ≡ []
-stretch_none a w = let e : w - w ≡ 0 = omega arith in ap (stretch a w) e
-
-pub tops_none : (s : ℕ) (a : Bits) (w : ℕ) → tops s a w w ≡ []
-tops_none s a w = ap (high_first (s + w)) (stretch_none a w)
-
-pub differences_none : (d : Bool) (s : ℕ) (a : Bits) (w : ℕ) → differences d (s + w) (stretch a w (w - w)) ≡ []
-differences_none d s a w = ap (differences d (s + w)) (stretch_none a w)
-
 -- p is the bit below those from index q on
 module _ (s : ℕ) (a : Bits) (w : ℕ) {p q : ℕ} (e : q ≡ suc p) (h : q ≤ w) where
   opened : stretch a p (w - p) ≡ get_or a p false ∷ stretch a q (w - q)
@@ -91,9 +82,6 @@ module _ (s : ℕ) (a : Bits) (w : ℕ) {p q : ℕ} (e : q ≡ suc p) (h : q ≤
       ∙ ap (λ c. differences d (s + q) (stretch a q (w - q)) ++ cond (beq (get_or a p false) d) (c ∷ []) []) (term_is (not d))
 
 -- how many records the terms of the bits from index p on have
-pub size_none : (d : Bool) (a : Bits) (w : ℕ) → differences_size d (stretch a w (w - w)) ≡ 0
-size_none d a w = ap (differences_size d) (stretch_none a w)
-
 pub size_more : (d : Bool) (a : Bits) (w : ℕ) {p q : ℕ} → q ≡ suc p → q ≤ w
     → differences_size d (stretch a p (w - p)) ≡ differences_size d (stretch a q (w - q)) + difference_size d a w p
 size_more d a w {p} {q} e h =
@@ -137,13 +125,6 @@ module _ (s : ℕ) (a : Bits) (w : ℕ) {p q : ℕ} (e : q ≡ suc p) (h : q ≤
       ∙ ap (λ c. sets l at (words c)) (term_is s a w e h v)
 
 -- no bit has links yet
-pub ready_none : (s : ℕ) (a : Bits) (w : ℕ) (xs : List ℕ) (at : ℕ) → at ≤ length xs → Ready s a w xs (record { to = at; from = at; done = w })
-ready_none s a w xs at h = record {
-  reach = omega arith;
-  before = omega arith;
-  stand = moved (none xs at h) refl (ap (linked Intersect) (sym (tops_none s a w)));
-}
-
 -- links stay when numbers are stored behind them
 pub ready_under : {s : ℕ} {a : Bits} {w : ℕ} {xs xs' : List ℕ} {r : Progress} (ys : List ℕ) → Ready s a w xs r → xs' ≡ sets xs r.to ys
     → Ready s a w xs' (record { to = r.to + length ys; from = r.from; done = r.done })
@@ -174,9 +155,6 @@ links_stand s a w p v xs at l h =
 
 -- the term of a bit, where it has one
 module _ (d : Bool) (s : ℕ) (a : Bits) (w p : ℕ) (xs : List ℕ) {r : Progress} (l : p < r.done) (h : Ready s a w xs r) where
-  pub difference_none : beq (get_or a p false) d ≡ false → Differs d s a w p xs r.to xs r
-  difference_none e = record { written = rw e; next = rw e (omega arith); above = l; ready = h }
-
   pub difference_one : beq (get_or a p false) d ≡ true → r.to + 6 * (w - p) ≤ length xs → {ys zs : List ℕ}
       → ys ≡ sets xs r.to (7 ∷ 0 ∷ 0 ∷ []) → zs ≡ sets ys (r.to + 3) (words (term s a w p (not d)))
       → Differs d s a w p xs r.to zs (record { to = r.to + 6 * (w - p); from = r.to + 3; done = p + 1 })

@@ -7,6 +7,12 @@ use native.Mathlib.Omega.{arith}
 use lib.Dec.{leb}
 use lib.ListN.{length}
 use borrow.Author.Tests.{le-leb, lt-leb}
+use Rattle.refusals.specs.Refusals.{number_of, refused_at}
+use Rattle.refusals.specs.declared.Refusal.TheVariants.{WorkMemory, BufferTooShort}
+use Rattle.refusals.specs.declared.Refusal.TheVariants as refusal
+use Rattle.std.specs.Prelude.{Result, Ok, Err}
+use Rattle.refusals.specs.declared.Refused.{Refused}
+use Rattle.desugar.specs.declared.went.Walked.{Walked}
 use Rattle.literals.proofs.Logic.{leb_is}
 use Rattle.expr.specs.Answers.{Answer, ok, refuse, and_then, map_answer, buffer_after}
 use Rattle.expr.specs.Terms.{Core, Expr, records}
@@ -21,13 +27,9 @@ use Rattle.desugar.specs.CoreBytes.{Writable, CoreWritten}
 use Rattle.desugar.specs.WalkWords.{Ready, Came, WalkedAs}
 use Rattle.desugar.specs.DesugarBytes.{desugared_answer, DesugaredAs, Allowance, Granted}
 use Rattle.desugar.specs.declared.bytes.Desugared.{Desugared}
-use Rattle.desugar.specs.declared.bytes.Desugared.TheVariants.{Done, Refused}
-use Rattle.desugar.specs.declared.went.Went.{Went}
-use Rattle.desugar.specs.declared.went.Walked.{Walked}
-use Rattle.desugar.specs.declared.went.Walked.TheVariants as walked
 
 -- the answer is known, and what the buffer holds
-answers : {bs : List ℕ} {n work : ℕ} {out out' : List ℕ} {r : Desugared} (y : Answer (List ℕ × ℕ)) → desugar_bytes bs n work (length out) ≡ y
+answers : {bs : List ℕ} {n work : ℕ} {out out' : List ℕ} {r : Result Desugared Refused} (y : Answer (List ℕ × ℕ)) → desugar_bytes bs n work (length out) ≡ y
     → desugared_answer r ≡ map_answer (λ p. (length p.0, p.1)) y → out' ≡ buffer_after (map_answer (λ p. p.0) y) out → DesugaredAs bs n work out out' r
 answers {out = out} y e a b =
     record {
@@ -37,12 +39,12 @@ answers {out = out} y e a b =
 
 -- ## The allowance and its work memory
 
-pub none_allowed : (bs : List ℕ) {n : ℕ} (work : ℕ) (out : List ℕ) → n ≡ 0 → DesugaredAs bs n work out out (Refused 9 0)
+pub none_allowed : (bs : List ℕ) {n : ℕ} (work : ℕ) (out : List ℕ) → n ≡ 0 → DesugaredAs bs n work out out (Err (refused_at refusal.Allowance 0))
 none_allowed bs {n} work out h =
     let under : leb 1 n ≡ false = lt-leb 1 n (omega arith) in
     answers (refuse 9 0) (rw under refl) refl refl
 
-pub too_much : (bs : List ℕ) {n : ℕ} (work : ℕ) (out : List ℕ) → max_allowance < n → DesugaredAs bs n work out out (Refused 9 0)
+pub too_much : (bs : List ℕ) {n : ℕ} (work : ℕ) (out : List ℕ) → max_allowance < n → DesugaredAs bs n work out out (Err (refused_at refusal.Allowance 0))
 too_much bs {n} work out h =
     let some : leb 1 n ≡ true = le-leb 1 n (omega arith) in
     let over : leb n max_allowance ≡ false = lt-leb n max_allowance h in
@@ -58,15 +60,15 @@ module _ {n : ℕ} (h : Allowance n) where
   below : leb n max_allowance ≡ true
   below = le-leb n max_allowance h.few
 
-  pub no_memory : (bs : List ℕ) {work : ℕ} (out : List ℕ) → work < work_for n → DesugaredAs bs n work out out (Refused 10 0)
+  pub no_memory : (bs : List ℕ) {work : ℕ} (out : List ℕ) → work < work_for n → DesugaredAs bs n work out out (Err (refused_at WorkMemory 0))
   no_memory bs {work} out h =
       let lacks : leb (work_for n) work ≡ false = lt-leb (work_for n) work h in
       answers (refuse 10 0) (rw (within, below, lacks) refl) refl refl
 
-  pub not_formed : {bs : List ℕ} {work r at : ℕ} (out : List ℕ) → work_for n ≤ work → decode bs ≡ refuse r at → DesugaredAs bs n work out out (Refused r at)
-  not_formed {bs} {work} {r} {at} out room h =
+  pub not_formed : {bs : List ℕ} {work : ℕ} (r : Refused) (out : List ℕ) → work_for n ≤ work → decode bs ≡ refuse (number_of r.refusal) r.place → DesugaredAs bs n work out out (Err r)
+  not_formed {bs} {work} r out room h =
       let enough : leb (work_for n) work ≡ true = le-leb (work_for n) work room in
-      answers (refuse r at) (rw (within, below, enough, h) refl) refl refl
+      answers (refuse (number_of r.refusal) r.place) (rw (within, below, enough, h) refl) refl refl
 
 twice : (b : Bool) → b ≡ not (not b)
 twice true = refl
@@ -113,34 +115,28 @@ module _ {bs : List ℕ} {n : ℕ} {xs : List ℕ} (g : Granted bs n xs) (bytes 
       }
 
   -- the walk came to the term's core
-  abbrev pub CameWhole : List ℕ → Went → Type 0
+  abbrev pub CameWhole : List ℕ → Walked → Type 0
   CameWhole xs' w = Came (desugar [] e 0 (left n)) (0 + length (encode e)) (0 + records e) 0 n max_depth xs xs' w
 
   -- what the walk promises of its outcome
-  abbrev Walks : ℕ → List ℕ → Walked → Type 0
+  abbrev Walks : ℕ → List ℕ → Result Walked Refused → Type 0
   Walks last xs' r =
       (q : Ready bs 0 max_depth 0 last 0 n xs)
       → WalkedAs (desugar q.env q.term 0 (left n)) (0 + length (encode q.term)) (0 + records q.term) 0 n max_depth xs xs' r
 
-  abbrev Outcome : List ℕ → Walked → Type 0
-  Outcome xs' r = WalkedAs (desugar [] e 0 (left n)) (0 + length (encode e)) (0 + records e) 0 n max_depth xs xs' r
-
-  outcome : {last : ℕ} (xs' : List ℕ) (r : Walked) → last ≡ 0 → Walks last xs' r → Outcome xs' r
+  pub walk_refused : {last : ℕ} (r : Refused) (xs' out : List ℕ) → last ≡ 0 → Walks last xs' (Err r) → DesugaredAs bs n (length xs) out out (Err r)
   unfolding whole_ready
-  outcome xs' r none went = went (whole_ready none)
+  walk_refused r xs' out none walk =
+      let no : desugar [] e 0 (left n) ≡ refuse (number_of r.refusal) r.place = walk (whole_ready none) in
+      answers (refuse (number_of r.refusal) r.place) (granted (length out) (rw no refl)) refl refl
 
-  pub walk_refused : {last number at : ℕ} {r : Walked} (xs' out : List ℕ) → last ≡ 0 → r ≡ walked.Refused number at → Walks last xs' r
-      → DesugaredAs bs n (length xs) out out (Refused number at)
-  walk_refused {r = r} xs' out none h went =
-      let no : desugar [] e 0 (left n) ≡ refuse _ _ = subst (Outcome xs') h (outcome xs' r none went) in
-      answers (refuse _ _) (granted (length out) (rw no refl)) refl refl
-
-  pub walk_came : {last : ℕ} {r : Walked} {w : Went} (xs' : List ℕ) → last ≡ 0 → r ≡ walked.Done w → Walks last xs' r → CameWhole xs' w
-  walk_came {r = r} xs' none h went = subst (Outcome xs') h (outcome xs' r none went)
+  pub walk_came : {last : ℕ} {w : Walked} (xs' : List ℕ) → last ≡ 0 → Walks last xs' (Ok w) → CameWhole xs' w
+  unfolding whole_ready
+  walk_came xs' none walk = walk (whole_ready none)
 
   -- ## The core's bytes
 
-  module _ {xs' : List ℕ} {w : Went} (came : CameWhole xs' w) where
+  module _ {xs' : List ℕ} {w : Walked} (came : CameWhole xs' w) where
     abbrev c : Core
     c = came.core
 
@@ -151,7 +147,7 @@ module _ {bs : List ℕ} {n : ℕ} {xs : List ℕ} (g : Granted bs n xs) (bytes 
     left_of = omega (arith, came.drawn)
 
     module _ {b : Bool} (out : List ℕ) (told : (c : Core) → Lies xs' w.at w.count c → b ≡ leb (length (encode_core c)) (length out)) where
-      pub no_room : not b ≡ true → DesugaredAs bs n (length xs) out out (Refused 26 0)
+      pub no_room : not b ≡ true → DesugaredAs bs n (length xs) out out (Err (refused_at BufferTooShort 0))
       no_room h =
           let over : leb (length (encode_core c)) (length out) ≡ false = sym (told c came.lies) ∙ twice b ∙ ap not h in
           answers (refuse 26 0) (granted (length out) (rw (came.is, over) refl)) refl refl
@@ -164,7 +160,7 @@ module _ {bs : List ℕ} {n : ℕ} {xs : List ℕ} (g : Granted bs n xs) (bytes 
         writable = record { core = c; lies = came.lies; room = (leb_is (length (encode_core c)) (length out)).0 enough }
 
         pub written : (out' : List ℕ) {m : ℕ} → ((c : Core) → Lies xs' w.at w.count c → CoreWritten c out out' m)
-            → DesugaredAs bs n (length xs) out out' (Done m (n - w.left))
+            → DesugaredAs bs n (length xs) out out' (Ok (record { length = m; drawn = n - w.left }))
         written out' wrote =
             let core = wrote c came.lies in
             answers (ok (encode_core c, n - w.left)) (granted (length out) (rw (came.is, enough) refl)) (ap (λ k. ok (k, n - w.left)) core.long)

@@ -9,6 +9,9 @@ use lib.Dec.{leb, eqb}
 use lib.ListN.{length, get_or}
 use lib.Seq.{sets}
 use borrow.Author.Tests.{leb-true, leb-false, le-leb, lt-leb, eq-eqb, ne_eqb}
+use Rattle.std.specs.Prelude.{Result, Ok, Err}
+use Rattle.refusals.specs.declared.Refused.{Refused}
+use Rattle.desugar.specs.declared.went.Walked.{Walked}
 use Rattle.expr.specs.Answers.{Answer, ok, refuse}
 use Rattle.expr.specs.Terms.{Op1, Op2, Union, Intersect, Xor, Difference, Sequence, LtlUntil, Core, leaf, one, two, op1_kind, op2_kind, size}
 use Rattle.desugar.specs.Meter.{Meter, left, drawing}
@@ -16,10 +19,8 @@ use Rattle.desugar.specs.Negation.{is_test, is_one, join, join_draw, again, nega
 use Rattle.desugar.specs.Memory.{words, Holds, Kept, Lies}
 use Rattle.desugar.specs.NegationOutcome.{outcome, Negates}
 use Rattle.desugar.specs.WalkWords.{WalkedAs, Operands, drops, negating, choosing, negated_size, BranchRoom, United}
-use Rattle.desugar.specs.declared.test_negation.Outcome.{Outcome}
-use Rattle.desugar.specs.declared.test_negation.Outcome.TheVariants.{Size, TooLarge, NotTest}
-use Rattle.desugar.specs.declared.went.Went.{Went}
-use Rattle.desugar.specs.declared.went.Walked.{Walked}
+use Rattle.desugar.specs.declared.test_negation.NegationError.{NegationError}
+use Rattle.desugar.specs.declared.test_negation.NegationError.TheVariants.{NotTest, TooLarge}
 use Rattle.desugar.proofs.Regions.{head, moved, joined, stored, over, under, kept_then, kept_less, kept_sets, length_words, size_pos}
 use Rattle.desugar.proofs.Frames.{lies_kept}
 use Rattle.desugar.proofs.WalkLaws.{wider}
@@ -36,7 +37,7 @@ module _ {A : Type 0} (n at : ℕ) (a : A) (k : ℕ) where
 
 -- a walk's end seen from an earlier memory, and under another name of the answer
 pub walked_since : {x y : Answer (Core × Meter)} {top top' : ℕ} {xs ys : List ℕ} (used next allowance levels : ℕ) (zs : List ℕ) → y ≡ x → top' ≡ top → Kept top xs ys
-    → (r : Walked) → WalkedAs x used next top' allowance levels ys zs r → WalkedAs y used next top allowance levels xs zs r
+    → (r : Result Walked Refused) → WalkedAs x used next top' allowance levels ys zs r → WalkedAs y used next top allowance levels xs zs r
 walked_since {x} {y} {top} {top'} {xs} {ys} used next allowance levels zs e t k r h =
     wider y x used used next next top top' allowance allowance levels levels xs ys zs r e refl refl (omega (arith, t)) (omega (arith, t)) (omega arith) k h
 
@@ -116,7 +117,7 @@ module _ (o : Op2) (c d : Core) (at k : ℕ) (p : drops o c ≡ false) where
 two_words : {xs : List ℕ} {at n m : ℕ} (c d : Core) → Lies xs at n c → Lies xs (at + 3 * n) m d → Holds xs at (words c ++ words d)
 two_words c d l r = joined (words c) (words d) l.holds (moved r.holds (omega (arith, length_words c, l.count)) refl)
 
-pub one_operand : (o : Op1) (c : Core) {kind : ℕ} {w : Went} {xs : List ℕ} → op1_kind o ≡ kind → Lies xs w.at w.count c → Operands (one o c) kind w xs
+pub one_operand : (o : Op1) (c : Core) {kind : ℕ} {w : Walked} {xs : List ℕ} → op1_kind o ≡ kind → Lies xs w.at w.count c → Operands (one o c) kind w xs
 one_operand o c e l = record {
   rest = words c;
   words_are = ap (λ (k : ℕ). k ∷ 0 ∷ 0 ∷ words c) e;
@@ -124,7 +125,7 @@ one_operand o c e l = record {
   count = omega (arith, l.count);
 }
 
-pub two_operands : (o : Op2) (c d : Core) {kind n m : ℕ} {w : Went} {xs : List ℕ} → op2_kind o ≡ kind → w.count ≡ n + m
+pub two_operands : (o : Op2) (c d : Core) {kind n m : ℕ} {w : Walked} {xs : List ℕ} → op2_kind o ≡ kind → w.count ≡ n + m
     → Lies xs w.at n c → Lies xs (w.at + 3 * n) m d → Operands (two o c d) kind w xs
 two_operands o c d e f l r = record {
   rest = words c ++ words d;
@@ -138,7 +139,7 @@ put_record {xs} at kind rest h =
     joined (kind ∷ 0 ∷ 0 ∷ []) rest (stored xs at (kind ∷ 0 ∷ 0 ∷ []) (omega (arith, h.fits))) (over at (kind ∷ 0 ∷ 0 ∷ []) (omega arith) h)
 
 -- the record is written below its operands
-pub sealed : {c : Core} {kind : ℕ} {w : Went} {xs : List ℕ} → 3 ≤ w.at → Operands c kind w xs
+pub sealed : {c : Core} {kind : ℕ} {w : Walked} {xs : List ℕ} → 3 ≤ w.at → Operands c kind w xs
     → Lies (sets xs (w.at - 3) (kind ∷ 0 ∷ 0 ∷ [])) (w.at - 3) (w.count + 1) c
 sealed {c} {kind} {w} {xs} h p = record {
   holds = moved (put_record (w.at - 3) kind p.rest (moved p.holds (omega arith) refl)) refl (sym p.words_are);
@@ -157,7 +158,7 @@ abbrev mid : ℕ → ℕ → ℕ → ℕ
 mid top n m = top + 6 + 3 * n + 3 * m
 
 -- an If of its four cores, when its other branch has moved to their end
-module _ {xs ys zs : List ℕ} {top n m s : ℕ} {e : Went} {c t c' d : Core} (u : United xs top n m s e c t c' d)
+module _ {xs ys zs : List ℕ} {top n m s : ℕ} {e : Walked} {c t c' d : Core} (u : United xs top n m s e c t c' d)
     (k : Kept (mid top n m + 3 + 3 * s) xs ys) (l : Lies ys (mid top n m + 3 + 3 * s) e.count d)
     (is : zs ≡ sets (sets (sets ys (mid top n m) (11 ∷ 0 ∷ 0 ∷ [])) (top + 3) (11 ∷ 0 ∷ 0 ∷ [])) top (7 ∷ 0 ∷ 0 ∷ [])) where
   pub united_kept : Kept top xs zs
@@ -183,67 +184,67 @@ module _ {xs ys zs : List ℕ} {top n m s : ℕ} {e : Went} {c t c' d : Core} (u
 
 -- ## Negations
 
-told_no_test : (b w : Bool) (n : ℕ) → NotTest ≡ outcome b w n → b ≡ false
+told_no_test : (b w : Bool) (n : ℕ) → Err NotTest ≡ outcome b w n → b ≡ false
 told_no_test false w n e = refl
 told_no_test true false n e = let z : ◌≡◌ {A = ℕ} 0 1 = cc in absurd (omega arith)
 told_no_test true true n e = let z : ◌≡◌ {A = ℕ} 0 1 = cc in absurd (omega arith)
 
-told_large : (b w : Bool) (n : ℕ) → TooLarge ≡ outcome b w n → (b ≡ true) × (w ≡ false)
+told_large : (b w : Bool) (n : ℕ) → Err TooLarge ≡ outcome b w n → (b ≡ true) × (w ≡ false)
 told_large false w n e = let z : ◌≡◌ {A = ℕ} 0 1 = cc in absurd (omega arith)
 told_large true false n e = (refl, refl)
 told_large true true n e = let z : ◌≡◌ {A = ℕ} 0 1 = cc in absurd (omega arith)
 
-told_size : (b w : Bool) (n s : ℕ) → Size s ≡ outcome b w n → (b ≡ true) × (w ≡ true) × (s ≡ n)
+told_size : (b w : Bool) (n s : ℕ) → Ok s ≡ outcome b w n → (b ≡ true) × (w ≡ true) × (s ≡ n)
 told_size false w n s e = let z : ◌≡◌ {A = ℕ} 0 1 = cc in absurd (omega arith)
 told_size true false n s e = let z : ◌≡◌ {A = ℕ} 0 1 = cc in absurd (omega arith)
 told_size true true n s e = (refl, refl, cc)
 
-module _ {xs : List ℕ} {c : Core} {at limit : ℕ} {r : Outcome} (h : Negates xs c at limit r) where
-  not_test : r ≡ NotTest → is_test c ≡ false
+module _ {xs : List ℕ} {c : Core} {at limit : ℕ} {r : Result ℕ NegationError} (h : Negates xs c at limit r) where
+  not_test : r ≡ Err NotTest → is_test c ≡ false
   not_test e = told_no_test (is_test c) (leb (size (negate c)) limit) (size (negate c)) (sym e ∙ h.is)
 
-  too_large : r ≡ TooLarge → (is_test c ≡ true) × (limit < size (negate c))
+  too_large : r ≡ Err TooLarge → (is_test c ≡ true) × (limit < size (negate c))
   too_large e =
       let t : (is_test c ≡ true) × (leb (size (negate c)) limit ≡ false) = told_large (is_test c) (leb (size (negate c)) limit) (size (negate c)) (sym e ∙ h.is) in
       (t.0, leb-false _ _ t.1)
 
-  pub of_size : (s : ℕ) → r ≡ Size s → (is_test c ≡ true) × (size (negate c) ≤ limit) × (s ≡ size (negate c))
+  pub of_size : (s : ℕ) → r ≡ Ok s → (is_test c ≡ true) × (size (negate c) ≤ limit) × (s ≡ size (negate c))
   of_size s e =
       let t : (is_test c ≡ true) × (leb (size (negate c)) limit ≡ true) × (s ≡ size (negate c)) = told_size (is_test c) (leb (size (negate c)) limit) (size (negate c)) s (sym e ∙ h.is) in
       (t.0, leb-true _ _ t.1, t.2)
 
-  pub negation_lies : (s : ℕ) → r ≡ Size s → Lies xs at s (negate c)
+  pub negation_lies : (s : ℕ) → r ≡ Ok s → Lies xs at s (negate c)
   negation_lies s e = record { holds = h.holds (of_size s e).0 (of_size s e).1; count = (of_size s e).2 }
 
   -- rule 22 and the draw
-  pub negating_no : (place k : ℕ) → r ≡ NotTest → negating c place (left k) ≡ refuse 22 place
+  pub negating_no : (place k : ℕ) → r ≡ Err NotTest → negating c place (left k) ≡ refuse 22 place
   negating_no place k e = rw (not_test e)
 
-  pub negating_large : (place : ℕ) → r ≡ TooLarge → negating c place (left limit) ≡ refuse 24 place
+  pub negating_large : (place : ℕ) → r ≡ Err TooLarge → negating c place (left limit) ≡ refuse 24 place
   negating_large place e = rw (too_large e).0 (draw_beyond (size (negate c)) place (negate c) limit (too_large e).1)
 
-  pub negating_fits : (place s : ℕ) → r ≡ Size s → negating c place (left limit) ≡ ok (negate c, left (limit - s))
+  pub negating_fits : (place s : ℕ) → r ≡ Ok s → negating c place (left limit) ≡ ok (negate c, left (limit - s))
   negating_fits place s e =
       rw (of_size s e).0
       (draw_within (size (negate c)) place (negate c) limit (of_size s e).1 ∙ ap (λ (k : ℕ). ok (negate c, left (limit - k))) (sym (of_size s e).2))
 
   -- rule 23 and the draw
   module _ (t d : Core) (place k : ℕ) where
-    pub choosing_no : r ≡ NotTest → choosing c t d place (left k) ≡ refuse 23 place
+    pub choosing_no : r ≡ Err NotTest → choosing c t d place (left k) ≡ refuse 23 place
     choosing_no e = rw (not_test e)
 
-    pub choosing_large : k ≤ limit → r ≡ TooLarge → choosing c t d place (left k) ≡ refuse 24 place
+    pub choosing_large : k ≤ limit → r ≡ Err TooLarge → choosing c t d place (left k) ≡ refuse 24 place
     choosing_large l e =
         rw (too_large e).0
         (draw_beyond (size (negate c) + 3) place (two Union (two Sequence c t) (two Sequence (negate c) d)) k (omega (arith, l, (too_large e).1)))
 
-    pub choosing_fits : (s : ℕ) → r ≡ Size s → choosing c t d place (left k) ≡ drawing (s + 3) place (two Union (two Sequence c t) (two Sequence (negate c) d)) (left k)
+    pub choosing_fits : (s : ℕ) → r ≡ Ok s → choosing c t d place (left k) ≡ drawing (s + 3) place (two Union (two Sequence c t) (two Sequence (negate c) d)) (left k)
     choosing_fits s e =
         rw (of_size s e).0
         (ap (λ (n : ℕ). drawing (n + 3) place (two Union (two Sequence c t) (two Sequence (negate c) d)) (left k)) (sym (of_size s e).2))
 
 -- the room of an If whose condition's negation has s records
-pub branch_room : {xs : List ℕ} {top n m : ℕ} {e : Went} {r : Outcome} (s : ℕ) → r ≡ Size s → BranchRoom xs top n m (negated_size r) e → BranchRoom xs top n m s e
+pub branch_room : {xs : List ℕ} {top n m : ℕ} {e : Walked} {r : Result ℕ NegationError} (s : ℕ) → r ≡ Ok s → BranchRoom xs top n m (negated_size r) e → BranchRoom xs top n m s e
 branch_room {xs} {top} {n} {m} {e} s is p = subst (λ (k : ℕ). BranchRoom xs top n m k e) (ap negated_size is) p
 
 -- ## How large a negation is
@@ -273,16 +274,15 @@ negate_size (two Sequence a b) = omega (arith, negate_size a, negate_size b)
 negate_size (two LtlUntil a b) = omega arith
 
 -- what is known of the size of a negation that may not be there
-pub negated_bounds : {xs : List ℕ} {c : Core} {at limit : ℕ} (r : Outcome) → Negates xs c at limit r → (negated_size r ≤ limit) × (2 * negated_size r ≤ 3 * size c + 1)
-negated_bounds {c = c} (Size s) h = (omega (arith, of_size h s refl), omega (arith, of_size h s refl, negate_size c))
-negated_bounds TooLarge h = (omega arith, omega arith)
-negated_bounds NotTest h = (omega arith, omega arith)
+pub negated_bounds : {xs : List ℕ} {c : Core} {at limit : ℕ} (r : Result ℕ NegationError) → Negates xs c at limit r → (negated_size r ≤ limit) × (2 * negated_size r ≤ 3 * size c + 1)
+negated_bounds {c = c} (Ok s) h = (omega (arith, of_size h s refl), omega (arith, of_size h s refl, negate_size c))
+negated_bounds (Err e) h = (omega arith, omega arith)
 
 -- it stays while nothing below its end changes
-pub negates_kept : {n : ℕ} {xs ys : List ℕ} {c : Core} {at limit : ℕ} {r : Outcome} → Kept n xs ys → at + 3 * negated_size r ≤ n → Negates xs c at limit r → Negates ys c at limit r
+pub negates_kept : {n : ℕ} {xs ys : List ℕ} {c : Core} {at limit : ℕ} {r : Result ℕ NegationError} → Kept n xs ys → at + 3 * negated_size r ≤ n → Negates xs c at limit r → Negates ys c at limit r
 negates_kept {ys = ys} {c = c} {at = at} {limit = limit} {r = r} k l h = record { is = h.is; holds = holds }
   where
     holds : is_test c ≡ true → size (negate c) ≤ limit → Holds ys at (words (negate c))
     holds t f =
-        let e : r ≡ Size (size (negate c)) = h.is ∙ rw (t, le-leb (size (negate c)) limit f) in
+        let e : r ≡ Ok (size (negate c)) = h.is ∙ rw (t, le-leb (size (negate c)) limit f) in
         (lies_kept k (omega (arith, l, ap negated_size e)) (negation_lies h (size (negate c)) e)).holds

@@ -6,6 +6,12 @@ use Prim.Native.Nat.{ℕ, zero, suc, ◌+◌, ◌-◌, ◌≤◌, ◌<◌}
 use native.Mathlib.Omega.{arith}
 use lib.ListN.{length, get_or, drop, length-append, length-drop}
 use lib.Seq.{drop-drop}
+use Rattle.expr.specs.declared.kind.Kind.{Kind}
+use Rattle.expr.specs.declared.kind.Kind.TheVariants as kind
+use Rattle.expr.specs.Kinds.{kind_number}
+use Rattle.std.specs.Prelude.{Result, Ok, Err}
+use Rattle.refusals.specs.declared.Refused.{Refused}
+use Rattle.desugar.specs.declared.went.Walked.{Walked}
 use Rattle.expr.specs.Terms.{Zero, Op1, Complement, Star, LtlNext, Op2, Union, Intersect, Xor, Difference, Sequence, LtlUntil, Core, Expr, Plain, Unary, Binary, op1_kind, op2_kind, records}
 use Rattle.expr.specs.Records.{Record}
 use Rattle.expr.specs.Form.{Node, node0, node1, node2, node3, nodes, node_of, encode}
@@ -23,7 +29,6 @@ use Rattle.desugar.specs.Meter.{left}
 use Rattle.desugar.specs.Desugar.{desugar}
 use Rattle.desugar.specs.BindingWords.{Bound}
 use Rattle.desugar.specs.WalkWords.{TermAt, TermsAt, Stack, WalkedAs, Ready, ReadyOne, ReadyTwo, ReadyThree, Operator1, Operator2, LeafReady}
-use Rattle.desugar.specs.declared.went.Walked.{Walked}
 use Rattle.desugar.proofs.Regions.{kept_all}
 use Rattle.desugar.proofs.WalkLaws.{in_part, stack_moved, wider}
 
@@ -44,34 +49,58 @@ module _ (r : Record) where
   unary_at : (o : Op1) → r.kind ≡ op1_kind o → get_or (nodes r) (op1_kind o) (node0 (Plain Zero)) ≡ node1 (Unary o) → UnaryNode r
   unary_at o e n = record { operator = record { o = o; is = sym e }; node = node_at_fact r (op1_kind o) e ∙ n }
 
-  unary_from : (i : ℕ) → r.kind ≡ 13 + i → i < 3 → UnaryNode r
-  unary_from zero e h = unary_at Complement e refl
-  unary_from (suc zero) e h = unary_at Star e refl
-  unary_from (suc (suc zero)) e h = unary_at LtlNext e refl
-  unary_from (suc (suc (suc i))) e h = absurd (omega arith)
-
-  pub unary_node : 13 ≤ r.kind → r.kind ≤ 15 → UnaryNode r
-  unary_node low high = unary_from (r.kind - 13) (omega arith) (omega arith)
-
   binary_at : (o : Op2) → r.kind ≡ op2_kind o → get_or (nodes r) (op2_kind o) (node0 (Plain Zero)) ≡ node2 (Binary o) → BinaryNode r
   binary_at o e n = record { operator = record { o = o; is = sym e }; node = node_at_fact r (op2_kind o) e ∙ n }
 
-  binary_from : (i : ℕ) → r.kind ≡ 7 + i → i < 6 → BinaryNode r
-  binary_from zero e h = binary_at Union e refl
-  binary_from (suc zero) e h = binary_at Intersect e refl
-  binary_from (suc (suc zero)) e h = binary_at Xor e refl
-  binary_from (suc (suc (suc zero))) e h = binary_at Difference e refl
-  binary_from (suc (suc (suc (suc zero)))) e h = binary_at Sequence e refl
-  binary_from (suc (suc (suc (suc (suc zero))))) e h = binary_at LtlUntil e refl
-  binary_from (suc (suc (suc (suc (suc (suc i)))))) e h = absurd (omega arith)
+-- the same by the kind that was read
+module _ (s : List ℕ) (h : Head) where
+  pub unary_kind : (h.kind ≡ kind.Complement) ⊎ ((h.kind ≡ kind.Star) ⊎ (h.kind ≡ kind.LtlNext)) → UnaryNode (record_of s h)
+  unary_kind (inl e) = unary_at (record_of s h) Complement (ap kind_number e) refl
+  unary_kind (inr (inl e)) = unary_at (record_of s h) Star (ap kind_number e) refl
+  unary_kind (inr (inr e)) = unary_at (record_of s h) LtlNext (ap kind_number e) refl
 
-  pub binary_node : 7 ≤ r.kind → r.kind ≤ 12 → BinaryNode r
-  binary_node low high = binary_from (r.kind - 7) (omega arith) (omega arith)
+  pub binary_kind : (h.kind ≡ kind.Union) ⊎ ((h.kind ≡ kind.Intersect) ⊎ ((h.kind ≡ kind.Xor) ⊎ ((h.kind ≡ kind.Difference) ⊎ ((h.kind ≡ kind.Sequence) ⊎ (h.kind ≡ kind.LtlUntil)))))
+      → BinaryNode (record_of s h)
+  binary_kind (inl e) = binary_at (record_of s h) Union (ap kind_number e) refl
+  binary_kind (inr (inl e)) = binary_at (record_of s h) Intersect (ap kind_number e) refl
+  binary_kind (inr (inr (inl e))) = binary_at (record_of s h) Xor (ap kind_number e) refl
+  binary_kind (inr (inr (inr (inl e)))) = binary_at (record_of s h) Difference (ap kind_number e) refl
+  binary_kind (inr (inr (inr (inr (inl e))))) = binary_at (record_of s h) Sequence (ap kind_number e) refl
+  binary_kind (inr (inr (inr (inr (inr e))))) = binary_at (record_of s h) LtlUntil (ap kind_number e) refl
 
--- the kinds of a record without children: those below 7, and those from 20 on
-pub leaf_arity : {k : ℕ} → (k < 7) ⊎ (16 ≤ k) → (k ≡ 16 → ⊥) → (k ≡ 17 → ⊥) → (k ≡ 18 → ⊥) → (k ≡ 19 → ⊥) → 0 ≡ arity_of k
-leaf_arity {k} (inl h) a b c d = arity_in 0 7 0 refl k (omega arith) (omega arith)
-leaf_arity {k} (inr h) a b c d = arity_past k (omega arith)
+-- a kind that has no children is none of these
+module _ (k : Kind) (not_Union : k ≡ kind.Union → ⊥) (not_Intersect : k ≡ kind.Intersect → ⊥) (not_Xor : k ≡ kind.Xor → ⊥) (not_Difference : k ≡ kind.Difference → ⊥) (not_Sequence : k ≡ kind.Sequence → ⊥) (not_LtlUntil : k ≡ kind.LtlUntil → ⊥) (not_Complement : k ≡ kind.Complement → ⊥) (not_Star : k ≡ kind.Star → ⊥) (not_LtlNext : k ≡ kind.LtlNext → ⊥) (not_TestNegation : k ≡ kind.TestNegation → ⊥) (not_IfThenElse : k ≡ kind.IfThenElse → ⊥) (not_Let : k ≡ kind.Let → ⊥) (not_LetBitRange : k ≡ kind.LetBitRange → ⊥) where
+  pub childless : 0 ≡ arity_of (kind_number k)
+  childless = go k refl
+    where
+      go : (j : Kind) → k ≡ j → 0 ≡ arity_of (kind_number j)
+      go kind.Zero e = refl
+      go kind.One e = refl
+      go kind.Top e = refl
+      go kind.Dup e = refl
+      go kind.End e = refl
+      go kind.Assign e = refl
+      go kind.Test e = refl
+      go kind.Union e = absurd (not_Union e)
+      go kind.Intersect e = absurd (not_Intersect e)
+      go kind.Xor e = absurd (not_Xor e)
+      go kind.Difference e = absurd (not_Difference e)
+      go kind.Sequence e = absurd (not_Sequence e)
+      go kind.LtlUntil e = absurd (not_LtlUntil e)
+      go kind.Complement e = absurd (not_Complement e)
+      go kind.Star e = absurd (not_Star e)
+      go kind.LtlNext e = absurd (not_LtlNext e)
+      go kind.TestNegation e = absurd (not_TestNegation e)
+      go kind.IfThenElse e = absurd (not_IfThenElse e)
+      go kind.Let e = absurd (not_Let e)
+      go kind.LetBitRange e = absurd (not_LetBitRange e)
+      go kind.Var e = refl
+      go kind.VarAssign e = refl
+      go kind.VarTest e = refl
+      go kind.BitRangeAssign e = refl
+      go kind.BitRangeTest e = refl
+      go kind.BitRangeMatch e = refl
+      go kind.VarMatch e = refl
 
 -- ## A node filled with its children
 
@@ -128,13 +157,6 @@ module _ {s : List ℕ} {levels place : ℕ} (e : Expr) (t : TermAt s levels pla
   pub used_is : h.size + length (encode_all (kids e)) ≡ length (encode e)
   used_is = omega (arith, k.size, length_is e)
 
-  pub kind_low : h.kind ≤ 26
-  kind_low = omega (arith, k.kind, ((own_node e).0 ((fits_is e).0 t.fits).0).kind)
-
-  -- so a walk comes to no kind above the last
-  pub none_above : 27 ≤ h.kind → ⊥
-  none_above high = omega (arith, kind_low)
-
   -- what is told of its node with the children behind its record is told of the term
   module _ (P : Expr → (used next : ℕ) → Type 0) where
     pub one_kid : {f : Expr → Expr} → node_of (record_of s h) ≡ node1 f
@@ -155,7 +177,7 @@ module _ {s : List ℕ} {levels place : ℕ} (e : Expr) (t : TermAt s levels pla
     three_kids n = three_filled s h.size (levels - 1) place P (node_filled n) kids_text used_is (sym (records_is e))
 
   -- a term without children is its record
-  pub alone : 0 ≡ arity_of h.kind → (node_of (record_of s h) ≡ node0 e) × (h.size ≡ length (encode e)) × (1 ≡ records e)
+  pub alone : 0 ≡ arity_of (kind_number h.kind) → (node_of (record_of s h) ≡ node0 e) × (h.size ≡ length (encode e)) × (1 ≡ records e)
   alone none =
       let f = fill_none (node_filled refl) (arity_is (record_of s h) ∙ sym none) in
       (f.0, omega (arith, used_is, ap (λ es. length (encode_all es)) f.1), omega (arith, records_is e, ap records_all f.1))
@@ -196,17 +218,17 @@ module _ {s xs : List ℕ} {at levels last top a : ℕ} (place : ℕ) (q : Ready
   kids_stack = stack_moved q.stack (kept_all last xs) (omega arith) q.stack.below (omega (arith, some_left))
 
   -- what is told, with bytes counted from the term's first
-  abbrev Told : ℕ → List ℕ → Walked → Expr → ℕ → ℕ → Type 0
+  abbrev Told : ℕ → List ℕ → Result Walked Refused → Expr → ℕ → ℕ → Type 0
   Told l ys r e used next = WalkedAs (desugar q.env e place (left a)) (at + used) next top a l xs ys r
 
-  abbrev Term : List ℕ → Walked → Type 0
+  abbrev Term : List ℕ → Result Walked Refused → Type 0
   Term ys r = Told levels ys r e (length (encode e)) (place + records e)
 
-  deeper : (ys : List ℕ) (r : Walked) → Told (levels - 1 + 1) ys r e (length (encode e)) (place + records e) → Term ys r
+  deeper : (ys : List ℕ) (r : Result Walked Refused) → Told (levels - 1 + 1) ys r e (length (encode e)) (place + records e) → Term ys r
   deeper ys r = subst (λ l. Told l ys r e (length (encode e)) (place + records e)) (omega (arith, some_left))
 
   -- bytes that are counted from the front, counted from the term's first
-  counted : (f : Expr) (ys : List ℕ) (r : Walked) (u next : ℕ)
+  counted : (f : Expr) (ys : List ℕ) (r : Result Walked Refused) (u next : ℕ)
       → WalkedAs (desugar q.env f place (left a)) (at + h.size + u) next top a (levels - 1 + 1) xs ys r → Told (levels - 1 + 1) ys r f (h.size + u) next
   counted f ys r u next = subst (λ n. WalkedAs (desugar q.env f place (left a)) n next top a (levels - 1 + 1) xs ys r) (omega arith)
 
@@ -229,7 +251,7 @@ module _ {s xs : List ℕ} {at levels last top a : ℕ} (place : ℕ) (q : Ready
   pub three_asked : {f : Expr → Expr → Expr → Expr} → node ≡ node3 f → ReadyThree s (at + h.size) (levels - 1) place last top a xs
   three_asked n = three_kids e text k (λ _ _ _. ReadyThree s (at + h.size) (levels - 1) place last top a xs) n three_ready
 
-  pub one_done : {f : Expr → Expr} (ys : List ℕ) (r : Walked) → node ≡ node1 f
+  pub one_done : {f : Expr → Expr} (ys : List ℕ) (r : Result Walked Refused) → node ≡ node1 f
       → ((p : ReadyOne s (at + h.size) (levels - 1) place last top a xs)
       → WalkedAs (desugar p.env (f p.first) place (left a)) (at + h.size + length (encode p.first)) (place + 1 + records p.first) top a (levels - 1 + 1) xs ys r)
       → Term ys r
@@ -237,7 +259,7 @@ module _ {s xs : List ℕ} {at levels last top a : ℕ} (place : ℕ) (q : Ready
       deeper ys r (one_kid e text k (Told (levels - 1 + 1) ys r) n (λ b t.
       counted (f b) ys r (length (encode b)) (place + 1 + records b) (v (one_ready b t))))
 
-  pub two_done : {f : Expr → Expr → Expr} (ys : List ℕ) (r : Walked) → node ≡ node2 f
+  pub two_done : {f : Expr → Expr → Expr} (ys : List ℕ) (r : Result Walked Refused) → node ≡ node2 f
       → ((p : ReadyTwo s (at + h.size) (levels - 1) place last top a xs)
       → WalkedAs (desugar p.env (f p.first p.second) place (left a)) (at + h.size + length (encode_all (p.first ∷ p.second ∷ [])))
       (place + 1 + records p.first + records p.second) top a (levels - 1 + 1) xs ys r)
@@ -246,7 +268,7 @@ module _ {s xs : List ℕ} {at levels last top a : ℕ} (place : ℕ) (q : Ready
       deeper ys r (two_kids e text k (Told (levels - 1 + 1) ys r) n (λ b c t.
       counted (f b c) ys r (length (encode_all (b ∷ c ∷ []))) (place + 1 + records b + records c) (v (two_ready b c t))))
 
-  pub three_done : {f : Expr → Expr → Expr → Expr} (ys : List ℕ) (r : Walked) → node ≡ node3 f
+  pub three_done : {f : Expr → Expr → Expr → Expr} (ys : List ℕ) (r : Result Walked Refused) → node ≡ node3 f
       → ((p : ReadyThree s (at + h.size) (levels - 1) place last top a xs)
       → WalkedAs (desugar p.env (f p.first p.second p.third) place (left a))
       (at + h.size + length (encode_all (p.first ∷ p.second ∷ p.third ∷ [])))
@@ -262,7 +284,6 @@ module _ {s xs : List ℕ} {at levels last top a : ℕ} (place : ℕ) (q : Ready
   leaf_ready =
       record {
         inside = k.found;
-        kind = kind_low e text k;
         low = omega (arith, records_is e, q.text.low);
         env = q.env;
         bound = q.stack.bound;
@@ -271,7 +292,7 @@ module _ {s xs : List ℕ} {at levels last top a : ℕ} (place : ℕ) (q : Ready
         small = omega (arith, q.stack.small);
       }
 
-  pub leaf_done : (ys : List ℕ) (r : Walked) → 0 ≡ arity_of h.kind
+  pub leaf_done : (ys : List ℕ) (r : Result Walked Refused) → 0 ≡ arity_of (kind_number h.kind)
       → ((e : Expr) (env : Env Core) → node ≡ node0 e → Bound xs last env
       → WalkedAs (desugar env e place (left a)) (at + h.size) (place + 1) top a 0 xs ys r)
       → Term ys r

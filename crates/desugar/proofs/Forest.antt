@@ -1,6 +1,6 @@
 -- Laws of cores that are gone through record by record in memory.
 use mathlib.Core.Path.{◌≡◌, refl, sym, ap, ◌∙◌}
-use mathlib.Core.Bool.{Bool, true, false, ◌&&◌, and_assoc}
+use mathlib.Core.Bool.{Bool, true, false, ◌&&◌, and_assoc, and-true}
 use mathlib.Core.List.{List, [], ◌∷◌, ◌++◌, append_assoc, append-nil}
 use Prim.Native.Nat.{ℕ, zero, suc, ◌+◌, ◌*◌, ◌-◌, ◌≤◌, ◌<◌}
 use native.Mathlib.Nat.{not-suc-le-zero}
@@ -8,8 +8,9 @@ use native.Mathlib.Omega.{arith}
 use lib.ListN.{length, get_or, length-append}
 use Rattle.literals.proofs.Logic.{and_right}
 use Rattle.expr.specs.Terms.{Atom, Op1, Op2, Core, leaf, one, two, Zero, One, Top, Dup, End, Assign, Test, Union, Intersect, Xor, Difference, Sequence, LtlUntil, Complement, Star, LtlNext, atom_kind, op1_kind, op2_kind, test_kind, size}
+use Rattle.desugar.specs.Negation.{is_test}
 use Rattle.desugar.specs.Memory.{words, Holds, Lies, words_all, size_all}
-use Rattle.desugar.specs.NegationRun.{core_kind, core_field, core_value, operands, all_test, opened, forest_at, note, notes_of, notes_all}
+use Rattle.desugar.specs.NegationRun.{all_kinds, core_kind, core_field, core_value, operands, all_test, opened, forest_at, note, notes_of, notes_all}
 use Rattle.desugar.proofs.Regions.{size_pos, moved, head, tail, length_words}
 
 -- ## Lengths and sizes
@@ -123,12 +124,27 @@ over_at c h j l = none_left (forest_at j (c ∷ [])) (omega (arith, size_at j (c
     none_left [] e = refl
     none_left (f ∷ fs) e = absurd (omega (arith, size_pos f))
 
--- a property of forests that each record's kind is asked for: after a kind that has it the rest decides, and any other kind decides alone
-pub kind_at : (kinds : ℕ → Bool) (all : List Core → Bool) → ((c : Core) (cs : List Core) → all (c ∷ cs) ≡ (kinds (core_kind c) && all (operands c ++ cs)))
-    → {xs : List ℕ} {i n : ℕ} (c : Core) → Lies xs i n c → (j : ℕ) → j < n → {b : Bool} → kinds (get_or xs (i + 3 * j) 0) ≡ b → all (forest_at j (c ∷ [])) ≡ (b && all (forest_at (suc j) (c ∷ [])))
-kind_at kinds all opens c h j l e =
-    let a : At _ _ j c = at c h j l in
-    rw a.is (opens a.core a.others ∙ ap (λ (b : Bool). b && all (operands a.core ++ a.others)) (ap kinds (sym a.spot.kind) ∙ e))
+-- a property of forests that is one of each record's kind
+module _ (kinds : ℕ → Bool) (all : List Core → Bool) (empty : all [] ≡ true) (opens : (c : Core) (cs : List Core) → all (c ∷ cs) ≡ (kinds (core_kind c) && all (operands c ++ cs))) where
+  of_kinds : {xs : List ℕ} (n i : ℕ) (fs : List Core) → n ≡ size_all fs → Holds xs i (words_all fs) → all_kinds kinds xs i n ≡ all fs
+  of_kinds zero i [] e h = sym empty
+  of_kinds zero i (c ∷ cs) e h = absurd (omega (arith, size_pos c))
+  of_kinds (suc n) i [] e h = absurd (omega arith)
+  of_kinds {xs} (suc n) i (c ∷ cs) e h =
+      let s : Spot xs i c cs = spot c cs h in
+      let rest : all_kinds kinds xs (i + 3) n ≡ all (operands c ++ cs) = of_kinds n (i + 3) (operands c ++ cs) (omega (arith, size_open c cs)) s.rest in
+      (λ i. kinds (s.kind i) && rest i) ∙ sym (opens c cs)
+
+  pub kinds_of : {xs : List ℕ} {i n : ℕ} (c : Core) → Lies xs i n c → all_kinds kinds xs i n ≡ all (c ∷ [])
+  kinds_of {i = i} {n = n} c h = of_kinds n i (c ∷ []) (omega (arith, h.count)) (moved h.holds refl (sym (append-nil (words c))))
+
+-- from record j on: its kind, and the records behind it
+pub kinds_from : (kinds : ℕ → Bool) (xs : List ℕ) (at n j : ℕ) → j < n → {b : Bool} → b ≡ kinds (get_or xs (at + 3 * j) 0)
+    → all_kinds kinds xs (at + 3 * j) (n - j) ≡ (b && all_kinds kinds xs (at + 3 * (j + 1)) (n - (j + 1)))
+kinds_from kinds xs at n j l {b} e =
+    let count : n - j ≡ suc (n - (j + 1)) = omega arith in
+    let place : at + 3 * j + 3 ≡ at + 3 * (j + 1) = omega arith in
+    rw count (λ i. sym e i && all_kinds kinds xs (place i) (n - (j + 1)))
 
 -- ## The test fragment
 
@@ -141,6 +157,9 @@ pub test_open : (c : Core) (cs : List Core) → all_test (c ∷ cs) ≡ (test_ki
 test_open (leaf p) cs = refl
 test_open (one o a) cs = rw test_op1
 test_open (two o a b) cs = rw (and_assoc, and_assoc)
+
+pub test_kinds : {xs : List ℕ} {i n : ℕ} (c : Core) → Lies xs i n c → all_kinds test_kind xs i n ≡ is_test c
+test_kinds c h = kinds_of test_kind all_test refl test_open c h ∙ and-true (is_test c)
 
 -- ## Every core of a test's forest is a test
 

@@ -1,8 +1,9 @@
 -- Laws of the binding set in work memory: what is kept, a frame more, and the search for a frame.
 use mathlib.Core.Path.{◌≡◌, refl, sym, ap, subst, ◌∙◌}
-use mathlib.Core.Bool.{Bool, true, false, cond, ◌&&◌, false≢true}
+use mathlib.Core.Bool.{Bool, true, false, cond, ◌&&◌, false≢true, true≢false}
 use mathlib.Core.Option.{Option, none, some}
 use mathlib.Core.List.{List, [], ◌∷◌}
+use Rattle.std.specs.Prelude as std
 use Prim.Native.Nat.{ℕ, ◌+◌, ◌-◌, ◌*◌, ◌≤◌, ◌<◌}
 use native.Mathlib.Omega.{arith}
 use lib.Dec.{eqb}
@@ -13,8 +14,9 @@ use Rattle.literals.proofs.Logic.{and_left, and_right}
 use Rattle.expr.specs.Terms.{Core}
 use Rattle.desugar.specs.Bindings.{Env, variable, range, lookup_variable, lookup_alias}
 use Rattle.desugar.specs.Memory.{Kept, Lies}
-use Rattle.desugar.specs.BindingWords.{Frame, FrameRoom, VariableFrame, Bound, VariableEnd, AliasEnd, Ends, VariableTold}
-use Rattle.desugar.specs.declared.bindings.Variable.TheVariants.{At, Unbound}
+use Rattle.desugar.specs.BindingWords.{Frame, FrameRoom, VariableFrame, Bound, VariableEnd, AliasEnd, Ends, CoreAt, VariableFound, fields_pair}
+use Rattle.desugar.specs.declared.Fields.{Fields}
+use Rattle.desugar.specs.declared.bindings.Region.{Region}
 use Rattle.desugar.proofs.Regions.{same_at, left, moved, stored, kept_sets, kept_holds, length_words}
 
 -- ## What is kept below an index
@@ -119,12 +121,12 @@ frame_second {xs} f = same_at xs (omega (arith, f.deep)) ∙ f.holds.each 3 (ome
 pub record Passed (xs : List ℕ) (kind x : ℕ) (all : Env Core) (last : ℕ) : Type 0 where
   pub env : Env Core
   pub bound : Bound xs last env
-  pub gives : (r : ℕ) → Ends xs kind x env r → Ends xs kind x all r
+  pub gives : (r : std.Option ℕ) → Ends xs kind x env r → Ends xs kind x all r
 
 pub passed_none : {xs : List ℕ} {kind x last : ℕ} (env : Env Core) → Bound xs last env → Passed xs kind x env last
 passed_none env b = record { env = env; bound = b; gives = λ r e. e }
 
-pub ends_none : {xs : List ℕ} {kind x last : ℕ} (env : Env Core) → last ≡ 0 → Bound xs last env → Ends xs kind x env 0
+pub ends_none : {xs : List ℕ} {kind x last : ℕ} (env : Env Core) → last ≡ 0 → Bound xs last env → Ends xs kind x env std.None
 ends_none [] z b = record { variables = λ k. refl; aliases = λ k. refl }
 ends_none (variable y c ∷ env) z b = absurd (omega (arith, z, b.0.frame.deep))
 ends_none (range y s e ∷ env) z b = absurd (omega (arith, z, b.0.deep))
@@ -141,13 +143,13 @@ module _ (xs : List ℕ) (kind x last : ℕ) (h : 0 < last) where
   here = of_kind && of_name_fact
 
   -- the frame that is looked for
-  pub ends_here : (env : Env Core) → Bound xs last env → here ≡ true → Ends xs kind x env last
+  pub ends_here : (env : Env Core) → Bound xs last env → here ≡ true → Ends xs kind x env (std.Some last)
   ends_here [] b t = absurd (omega (arith, b))
   ends_here (variable y c ∷ env) b t =
       let k : kind ≡ 0 = sym (eqb-true (get_or xs (last - 5) 0) kind (and_left of_kind of_name_fact t)) ∙ frame_kind b.0.frame in
       let n : y ≡ x = sym (frame_name b.0.frame) ∙ eqb-true (get_or xs (last - 4) 0) x (and_right of_kind of_name_fact t) in
       record {
-        variables = λ z. subst (λ f. VariableEnd xs x (cond f (some c) (lookup_variable env x)) last) (sym (eq-eqb x y (sym n))) (subst (λ z. VariableFrame xs last z c) n b.0);
+        variables = λ z. subst (λ f. VariableEnd xs x (cond f (some c) (lookup_variable env x)) (std.Some last)) (sym (eq-eqb x y (sym n))) (subst (λ z. VariableFrame xs last z c) n b.0);
         aliases = λ z. absurd (omega (arith, k, z));
       }
   ends_here (range y s e ∷ env) b t =
@@ -155,7 +157,7 @@ module _ (xs : List ℕ) (kind x last : ℕ) (h : 0 < last) where
       let n : y ≡ x = sym (frame_name b.0) ∙ eqb-true (get_or xs (last - 4) 0) x (and_right of_kind of_name_fact t) in
       record {
         variables = λ z. absurd (omega (arith, k, z));
-        aliases = λ z. subst (λ f. AliasEnd xs x (cond f (some (s, e)) (lookup_alias env x)) last) (sym (eq-eqb x y (sym n))) (subst (λ z. Frame xs last 1 z s e) n b.0);
+        aliases = λ z. subst (λ f. AliasEnd xs x (cond f (some (s, e)) (lookup_alias env x)) (std.Some last)) (sym (eq-eqb x y (sym n))) (subst (λ z. Frame xs last 1 z s e) n b.0);
       }
 
   -- another frame: its kind differs, or its name
@@ -194,35 +196,53 @@ module _ (xs : List ℕ) (kind x last : ℕ) (h : 0 < last) where
       let q = passed_more p.env p.bound f in
       record { env = q.env; bound = q.bound; gives = λ r e. p.gives r (q.gives r e) }
 
--- ## What the end of a frame tells
+-- ## What is read of a frame that was found
 
-module _ (xs : List ℕ) (x r : ℕ) where
-  pub variable_there : (o : Option Core) → VariableEnd xs x o r → (r ≡ 0 → ⊥) → (5 ≤ r) × (r ≤ length xs)
-  variable_there none e n = absurd (n e)
-  variable_there (some c) e n = (e.frame.deep, e.frame.inside)
+pub some_none : {n : ℕ} → std.Some n ≡ std.None → ⊥
+some_none e = true≢false (ap is_there e)
+  where
+    is_there : std.Option ℕ → Bool
+    is_there (std.Some n) = true
+    is_there std.None = false
 
-  pub alias_there : (o : Option (ℕ × ℕ)) → AliasEnd xs x o r → (r ≡ 0 → ⊥) → (5 ≤ r) × (r ≤ length xs)
-  alias_there none e n = absurd (n e)
-  alias_there (some p) e n = (e.deep, e.inside)
+module _ (xs : List ℕ) (x last : ℕ) (o : Option Core) (e : VariableEnd xs x o (std.Some last)) where
+  pub variable_there : (5 ≤ last) × (last ≤ length xs)
+  variable_there = go o e
+    where
+      go : (o : Option Core) → VariableEnd xs x o (std.Some last) → (5 ≤ last) × (last ≤ length xs)
+      go none e = absurd (some_none e)
+      go (some c) e = (e.frame.deep, e.frame.inside)
 
-  pub variable_told : (o : Option Core) (last : ℕ) → VariableEnd xs x o r → (r ≡ 0 → ⊥) → r ≤ last → (at count : ℕ) → at ≡ get_or xs (r - 3) 0 → count ≡ get_or xs (r - 2) 0 → VariableTold xs last o (At at count)
-  variable_told none last e n h at count p q = absurd (n e)
-  variable_told (some c) last e n h at count p q = record {
-    at = e.at;
-    count = e.count;
-    is = λ i. At ((p ∙ frame_first e.frame) i) ((q ∙ frame_second e.frame) i);
-    lies = e.lies;
-    below = omega (arith, e.below, h);
-  }
+  pub variable_found : (top : ℕ) → last ≤ top → (at count : ℕ) → at ≡ get_or xs (last - 3) 0 → count ≡ get_or xs (last - 2) 0
+      → VariableFound xs top o (std.Some (record { at = at; count = count }))
+  variable_found top h at count p q = go o e
+    where
+      go : (o : Option Core) → VariableEnd xs x o (std.Some last) → VariableFound xs top o (std.Some (record { at = at; count = count }))
+      go none e = absurd (some_none e)
+      go (some c) e =
+          let first : e.at ≡ at = sym (p ∙ frame_first e.frame) in
+          let second : e.count ≡ count = sym (q ∙ frame_second e.frame) in
+          record { lies = subst (λ n. Lies xs at n c) second (subst (λ m. Lies xs m e.count c) first e.lies); below = omega (arith, e.below, h) }
 
-  pub variable_unbound : (o : Option Core) (last : ℕ) → VariableEnd xs x o r → r ≡ 0 → VariableTold xs last o Unbound
-  variable_unbound none last e z = refl
-  variable_unbound (some c) last e z = absurd (omega (arith, z, e.frame.deep))
+module _ (xs : List ℕ) (x last : ℕ) (o : Option (ℕ × ℕ)) (e : AliasEnd xs x o (std.Some last)) where
+  pub alias_there : (5 ≤ last) × (last ≤ length xs)
+  alias_there = go o e
+    where
+      go : (o : Option (ℕ × ℕ)) → AliasEnd xs x o (std.Some last) → (5 ≤ last) × (last ≤ length xs)
+      go none e = absurd (some_none e)
+      go (some p) e = (e.deep, e.inside)
 
-  pub alias_told : (o : Option (ℕ × ℕ)) → AliasEnd xs x o r → (r ≡ 0 → ⊥) → some (get_or xs (r - 3) 0, get_or xs (r - 2) 0) ≡ o
-  alias_told none e n = absurd (n e)
-  alias_told (some p) e n = λ i. some (frame_first e i, frame_second e i)
+  pub alias_found : fields_pair (std.Some (record { start = get_or xs (last - 3) 0; end = get_or xs (last - 2) 0 })) ≡ o
+  alias_found = go o e
+    where
+      go : (o : Option (ℕ × ℕ)) → AliasEnd xs x o (std.Some last) → fields_pair (std.Some (record { start = get_or xs (last - 3) 0; end = get_or xs (last - 2) 0 })) ≡ o
+      go none e = absurd (some_none e)
+      go (some p) e = λ i. some (frame_first e i, frame_second e i)
 
-  pub alias_unbound : (o : Option (ℕ × ℕ)) → AliasEnd xs x o r → r ≡ 0 → none ≡ o
-  alias_unbound none e z = refl
-  alias_unbound (some p) e z = absurd (omega (arith, z, e.deep))
+pub variable_unbound : (xs : List ℕ) (x last : ℕ) (o : Option Core) → VariableEnd xs x o std.None → VariableFound xs last o std.None
+variable_unbound xs x last none e = refl
+variable_unbound xs x last (some c) e = absurd e
+
+pub alias_unbound : (xs : List ℕ) (x : ℕ) (o : Option (ℕ × ℕ)) → AliasEnd xs x o std.None → none ≡ o
+alias_unbound xs x none e = refl
+alias_unbound xs x (some p) e = absurd e

@@ -4,6 +4,9 @@ use mathlib.Core.List.{List, [], ◌∷◌}
 use Prim.Native.Nat.{ℕ, ◌+◌, ◌*◌, ◌≤◌}
 use native.Mathlib.Omega.{arith}
 use lib.ListN.{length, length-append}
+use Rattle.std.specs.Prelude.{Result, Ok, Err}
+use Rattle.refusals.specs.declared.Refused.{Refused}
+use Rattle.desugar.specs.declared.went.Walked.{Walked}
 use Rattle.expr.specs.Answers.{Answer, refuse, and_then}
 use Rattle.expr.specs.Terms.{Core, Expr, IfThenElse, records}
 use Rattle.expr.specs.Form.{encode}
@@ -11,11 +14,9 @@ use Rattle.expr.specs.Replaced.{encode_all}
 use Rattle.desugar.specs.Meter.{Meter, left}
 use Rattle.desugar.specs.Desugar.{desugar}
 use Rattle.desugar.specs.Memory.{Kept}
-use Rattle.desugar.specs.NegationOutcome.{Layout, Negates}
+use Rattle.desugar.specs.NegationOutcome.{Negates}
 use Rattle.desugar.specs.WalkWords.{TermsAt, Came, WalkedAs, Ready, ReadyThree, ReadyElse, choosing, Branches, BranchRoom, negated_size}
-use Rattle.desugar.specs.declared.went.Went.{Went}
-use Rattle.desugar.specs.declared.went.Walked.{Walked}
-use Rattle.desugar.specs.declared.test_negation.Outcome.{Outcome}
+use Rattle.desugar.specs.declared.test_negation.NegationError.{NegationError}
 use Rattle.desugar.proofs.Regions.{kept_then, kept_less, size_pos}
 use Rattle.desugar.proofs.Frames.{bound_kept, lies_kept}
 use Rattle.desugar.proofs.Closing.{negated_bounds, negates_kept}
@@ -34,12 +35,12 @@ module _ {s xs : List ℕ} {from l last top a : ℕ} (place : ℕ) (q : ReadyThr
   abbrev whole : Answer (Core × Meter)
   whole = desugar q.env (IfThenElse q.first q.second q.third) place (left a)
 
-  abbrev Told : List ℕ → Walked → Type 0
+  abbrev Told : List ℕ → Result Walked Refused → Type 0
   Told ys r =
       WalkedAs whole (from + length (encode_all (q.first ∷ q.second ∷ q.third ∷ [])))
       (place + 1 + records q.first + records q.second + records q.third) top a (l + 1) xs ys r
 
-  module _ {w : Went} {xs₂ : List ℕ} (c : Settled x₁ (from + length (encode q.first)) (place + 1 + records q.first) (top + 6) a xs xs₂ w) where
+  module _ {w : Walked} {xs₂ : List ℕ} (c : Settled x₁ (from + length (encode q.first)) (place + 1 + records q.first) (top + 6) a xs xs₂ w) where
     pub second_text : TermsAt s w.used l w.next (q.second ∷ q.third ∷ [])
     second_text = rest_at q.first (q.second ∷ q.third ∷ []) q.text c.used_is c.next_is
 
@@ -63,7 +64,7 @@ module _ {s xs : List ℕ} {from l last top a : ℕ} (place : ℕ) (q : ReadyThr
     pub branch_stops : {n p : ℕ} → x₂ ≡ refuse n p → whole ≡ refuse n p
     branch_stops e = if_is ∙ then_refused _ e
 
-    module _ {w₂ : Went} {xs₃ : List ℕ} (d : Settled x₂ (w.used + length (encode q.second)) (w.next + records q.second) (top + 6 + 3 * w.count) w.left xs₂ xs₃ w₂) where
+    module _ {w₂ : Walked} {xs₃ : List ℕ} (d : Settled x₂ (w.used + length (encode q.second)) (w.next + records q.second) (top + 6 + 3 * w.count) w.left xs₂ xs₃ w₂) where
       abbrev pub else_ready : ReadyElse s w₂.used l w₂.next last xs₃ top w.count w₂.count w₂.left
       else_ready =
           record {
@@ -80,7 +81,7 @@ module _ {s xs : List ℕ} {from l last top a : ℕ} (place : ℕ) (q : ReadyThr
             small = omega (arith, q.stack.small, c.drawn, d.drawn);
           }
 
-      pub if_done : (xs₄ : List ℕ) (r : Walked)
+      pub if_done : (xs₄ : List ℕ) (r : Result Walked Refused)
           → ((p : ReadyElse s w₂.used l w₂.next last xs₃ top w.count w₂.count w₂.left)
           → WalkedAs (and_then (desugar p.env p.third w₂.next (left w₂.left)) (λ e. choosing p.condition_core p.first_core e.0 place e.1))
           (w₂.used + length (encode p.third)) (w₂.next + records p.third) top (w.count + w₂.count + w₂.left) (l + 1) xs₃ xs₄ r)
@@ -102,18 +103,7 @@ module _ {s xs : List ℕ} {from l next last top n m a : ℕ} (place : ℕ) (q :
   abbrev c : Core
   c = q.condition_core
 
-  pub negation_layout : Layout (length xs) (top + 6) n (top + 9 + 3 * n + 3 * m) (top + 9 + 3 * n + 3 * m + n) (top + 9 + 3 * n + 3 * m + n + n) a
-  negation_layout =
-      record {
-        small = omega (arith, q.small);
-        few = omega (arith, q.small);
-        notes_at = omega arith;
-        modes_at = omega arith;
-        out_at = omega arith;
-        room = omega (arith, q.room);
-      }
-
-  module _ {r : Outcome} {xs₁ : List ℕ} (kept : Kept (top + 9 + 3 * n + 3 * m) xs xs₁) (g : Negates xs₁ c (top + 9 + 3 * n + 3 * m) a r) where
+  module _ {r : Result ℕ NegationError} {xs₁ : List ℕ} (kept : Kept (top + 9 + 3 * n + 3 * m) xs xs₁) (g : Negates xs₁ c (top + 9 + 3 * n + 3 * m) a r) where
     abbrev above : ℕ
     above = top + 9 + 3 * n + 3 * m + 3 * negated_size r
 
@@ -133,14 +123,14 @@ module _ {s xs : List ℕ} {from l next last top n m a : ℕ} (place : ℕ) (q :
     abbrev x₃ : Answer (Core × Meter)
     x₃ = desugar q.env q.third next (left a)
 
-    module _ {w : Went} {xs₂ : List ℕ} {to : ℕ} (e : to ≡ above) (d : Came x₃ (from + length (encode q.third)) (next + records q.third) to a l xs₁ xs₂ w) where
+    module _ {w : Walked} {xs₂ : List ℕ} {to : ℕ} (e : to ≡ above) (d : Came x₃ (from + length (encode q.third)) (next + records q.third) to a l xs₁ xs₂ w) where
       pub branch_room : BranchRoom xs₂ top n m (negated_size r) w
       branch_room = record { apart = omega (arith, e, d.above); room = lies_inside d.lies }
 
       kept₂ : Kept (top + 9 + 3 * n + 3 * m) xs xs₂
       kept₂ = kept_then kept (kept_less (omega (arith, e)) d.kept)
 
-      pub other_done : (xs₃ : List ℕ) (z : Walked)
+      pub other_done : (xs₃ : List ℕ) (z : Result Walked Refused)
           → ((limit : ℕ) (c t e : Core) → Branches xs₂ top n m r w limit c t e
           → WalkedAs (choosing c t e place (left w.left)) w.used w.next top (n + m + w.count + w.left) 0 xs₂ xs₃ z)
           → WalkedAs (and_then x₃ (λ e. choosing c q.first_core e.0 place e.1)) (from + length (encode q.third)) (next + records q.third) top (n + m + a) (l + 1) xs xs₃ z

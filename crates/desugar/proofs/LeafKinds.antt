@@ -7,6 +7,9 @@ use native.Mathlib.Omega.{arith}
 use native.Mathlib.Decide.{dec_lt}
 use borrow.Author.Tests.{ne_eqb, le-leb, lt-leb}
 use lib.ListN.{get_or}
+use Rattle.expr.specs.Kinds.{kind_number}
+use Rattle.expr.specs.declared.kind.Kind.{Kind}
+use Rattle.expr.specs.declared.kind.Kind.TheVariants as kind
 use Rattle.literals.specs.Patterns.{Cidr, Exact, IpRange, Wildcard}
 use Rattle.expr.specs.Terms.{Alias, Assigns, Direct, Expr, Matches, Plain, Ranged, Tests, Var, Where}
 use Rattle.expr.specs.Records.{Record}
@@ -154,3 +157,88 @@ ranged_is h e l m v n = go (dec_lt h.kind 20)
     go (no k) =
         same_node
         (sym (kinds_in 21 6 (λ j. node_of (of h j) ≡ node0 (Ranged (where_of (of h j)) (use_of (of h j)))) (refl, (refl, (refl, (refl, (refl, (refl, tt)))))) h.kind (omega arith) (omega arith)) ∙ n)
+
+-- ## By the kind that was read
+
+pub atom_small : (k : Kind) → (k ≡ kind.Zero) ⊎ ((k ≡ kind.One) ⊎ ((k ≡ kind.Top) ⊎ ((k ≡ kind.Dup) ⊎ ((k ≡ kind.End) ⊎ ((k ≡ kind.Assign) ⊎ (k ≡ kind.Test)))))) → kind_number k ≤ 6
+atom_small k (inl e) = omega (arith, ap kind_number e)
+atom_small k (inr (inl e)) = omega (arith, ap kind_number e)
+atom_small k (inr (inr (inl e))) = omega (arith, ap kind_number e)
+atom_small k (inr (inr (inr (inl e)))) = omega (arith, ap kind_number e)
+atom_small k (inr (inr (inr (inr (inl e))))) = omega (arith, ap kind_number e)
+atom_small k (inr (inr (inr (inr (inr (inl e)))))) = omega (arith, ap kind_number e)
+atom_small k (inr (inr (inr (inr (inr (inr e)))))) = omega (arith, ap kind_number e)
+
+-- a kind that is no atom's and no variable's
+module _ (k : Kind) (not_Zero : k ≡ kind.Zero → ⊥) (not_One : k ≡ kind.One → ⊥) (not_Top : k ≡ kind.Top → ⊥) (not_Dup : k ≡ kind.Dup → ⊥) (not_End : k ≡ kind.End → ⊥) (not_Assign : k ≡ kind.Assign → ⊥) (not_Test : k ≡ kind.Test → ⊥) (not_Var : k ≡ kind.Var → ⊥) where
+  pub above_atoms : (6 < kind_number k) × (kind_number k ≡ 20 → ⊥)
+  above_atoms = go k refl
+    where
+      go : (j : Kind) → k ≡ j → (6 < kind_number j) × (kind_number j ≡ 20 → ⊥)
+      go kind.Zero e = absurd (not_Zero e)
+      go kind.One e = absurd (not_One e)
+      go kind.Top e = absurd (not_Top e)
+      go kind.Dup e = absurd (not_Dup e)
+      go kind.End e = absurd (not_End e)
+      go kind.Assign e = absurd (not_Assign e)
+      go kind.Test e = absurd (not_Test e)
+      go kind.Union e = (omega arith, λ z. omega (arith, z))
+      go kind.Intersect e = (omega arith, λ z. omega (arith, z))
+      go kind.Xor e = (omega arith, λ z. omega (arith, z))
+      go kind.Difference e = (omega arith, λ z. omega (arith, z))
+      go kind.Sequence e = (omega arith, λ z. omega (arith, z))
+      go kind.LtlUntil e = (omega arith, λ z. omega (arith, z))
+      go kind.Complement e = (omega arith, λ z. omega (arith, z))
+      go kind.Star e = (omega arith, λ z. omega (arith, z))
+      go kind.LtlNext e = (omega arith, λ z. omega (arith, z))
+      go kind.TestNegation e = (omega arith, λ z. omega (arith, z))
+      go kind.IfThenElse e = (omega arith, λ z. omega (arith, z))
+      go kind.Let e = (omega arith, λ z. omega (arith, z))
+      go kind.LetBitRange e = (omega arith, λ z. omega (arith, z))
+      go kind.Var e = absurd (not_Var e)
+      go kind.VarAssign e = (omega arith, λ z. omega (arith, z))
+      go kind.VarTest e = (omega arith, λ z. omega (arith, z))
+      go kind.BitRangeAssign e = (omega arith, λ z. omega (arith, z))
+      go kind.BitRangeTest e = (omega arith, λ z. omega (arith, z))
+      go kind.BitRangeMatch e = (omega arith, λ z. omega (arith, z))
+      go kind.VarMatch e = (omega arith, λ z. omega (arith, z))
+
+-- the kinds of a use with a literal, and the others
+pub literal_kind : (k : Kind) → (k ≡ kind.VarAssign) ⊎ ((k ≡ kind.VarTest) ⊎ ((k ≡ kind.BitRangeAssign) ⊎ (k ≡ kind.BitRangeTest))) → (21 ≤ kind_number k) × (kind_number k ≤ 24)
+literal_kind k (inl e) = (omega (arith, ap kind_number e), omega (arith, ap kind_number e))
+literal_kind k (inr (inl e)) = (omega (arith, ap kind_number e), omega (arith, ap kind_number e))
+literal_kind k (inr (inr (inl e))) = (omega (arith, ap kind_number e), omega (arith, ap kind_number e))
+literal_kind k (inr (inr (inr e))) = (omega (arith, ap kind_number e), omega (arith, ap kind_number e))
+
+module _ (k : Kind) (not_VarAssign : k ≡ kind.VarAssign → ⊥) (not_VarTest : k ≡ kind.VarTest → ⊥) (not_BitRangeAssign : k ≡ kind.BitRangeAssign → ⊥) (not_BitRangeTest : k ≡ kind.BitRangeTest → ⊥) where
+  pub no_literal : (kind_number k < 21) ⊎ (25 ≤ kind_number k)
+  no_literal = go k refl
+    where
+      go : (j : Kind) → k ≡ j → (kind_number j < 21) ⊎ (25 ≤ kind_number j)
+      go kind.Zero e = inl (omega arith)
+      go kind.One e = inl (omega arith)
+      go kind.Top e = inl (omega arith)
+      go kind.Dup e = inl (omega arith)
+      go kind.End e = inl (omega arith)
+      go kind.Assign e = inl (omega arith)
+      go kind.Test e = inl (omega arith)
+      go kind.Union e = inl (omega arith)
+      go kind.Intersect e = inl (omega arith)
+      go kind.Xor e = inl (omega arith)
+      go kind.Difference e = inl (omega arith)
+      go kind.Sequence e = inl (omega arith)
+      go kind.LtlUntil e = inl (omega arith)
+      go kind.Complement e = inl (omega arith)
+      go kind.Star e = inl (omega arith)
+      go kind.LtlNext e = inl (omega arith)
+      go kind.TestNegation e = inl (omega arith)
+      go kind.IfThenElse e = inl (omega arith)
+      go kind.Let e = inl (omega arith)
+      go kind.LetBitRange e = inl (omega arith)
+      go kind.Var e = inl (omega arith)
+      go kind.VarAssign e = absurd (not_VarAssign e)
+      go kind.VarTest e = absurd (not_VarTest e)
+      go kind.BitRangeAssign e = absurd (not_BitRangeAssign e)
+      go kind.BitRangeTest e = absurd (not_BitRangeTest e)
+      go kind.BitRangeMatch e = inr (omega arith)
+      go kind.VarMatch e = inr (omega arith)

@@ -5,42 +5,47 @@ use mathlib.Core.List.{List, [], ◌∷◌}
 use Prim.Native.Nat.{ℕ, ◌+◌, ◌-◌, ◌*◌, ◌≤◌, ◌<◌}
 use native.Mathlib.Omega.{arith}
 use borrow.Author.Tests.{le-leb, lt-leb, ne_eqb}
-use lib.Dec.{eqb}
+use lib.Dec.{eqb, leb}
 use lib.ListN.{length, length-drop, take}
 use lib.Seq.{length-take-le, sets}
+use Rattle.std.specs.Prelude as std
+use Rattle.literals.specs.Results.{literal_bits}
+use Rattle.expr.specs.Kinds.{kind_number, pattern_number}
+use Rattle.desugar.specs.declared.ranged.Use as read
+use Rattle.desugar.specs.declared.bindings.Region.{Region}
+use mathlib.Core.Bool.{Bool, true, false, cond, ◌&&◌, true≢false, false≢true}
+use Rattle.desugar.proofs.Frames.{some_none}
+use Rattle.std.specs.Prelude.{Result, Ok, Err}
+use Rattle.refusals.specs.declared.Refused.{Refused}
+use Rattle.desugar.specs.declared.went.Walked.{Walked}
 use Rattle.literals.proofs.Bytes.{length_unpack}
-use Rattle.literals.specs.Bits.{bit, unpack}
+use Rattle.literals.specs.Bits.{Bits, bit, unpack}
 use Rattle.literals.specs.Reading.{bytes_for}
-use Rattle.expr.specs.Answers.{Answer, and_then, ok, refuse}
-use Rattle.expr.specs.Terms.{Core, Name, Ranged, Use, Var, Where, leaf, size}
+use Rattle.expr.specs.Answers.{Answer, and_then, need, ok, refuse}
+use Rattle.expr.specs.Terms.{Alias, Assigns, Core, Direct, Matches, Name, Ranged, Tests, Use, Var, Where, leaf, size}
 use Rattle.expr.specs.Records.{Record}
 use Rattle.expr.specs.Results.{HeadInside, record_of}
 use Rattle.expr.specs.declared.records.Head.{Head}
-use Rattle.expr.specs.declared.records.HeadRead.TheVariants as head
 use Rattle.expr.proofs.Slices.{part, part_is}
 use Rattle.desugar.specs.Bindings.{Env, find_range, lookup_alias, lookup_variable}
 use Rattle.desugar.specs.Meter.{Meter, ◌>>=◌, drawing, left, lift}
-use Rattle.desugar.specs.Rules.{known_range, range_rule}
+use Rattle.desugar.specs.Rules.{known_range, literal_rule, range_rule, use_rule}
 use Rattle.desugar.specs.Leaves.{use_core}
 use Rattle.desugar.specs.Desugar.{desugar}
 use Rattle.desugar.specs.Memory.{Holds, Kept, Lies, words}
-use Rattle.desugar.specs.BindingWords.{VariableTold}
-use Rattle.desugar.specs.WalkWords.{Came, WalkedAs}
-use Rattle.desugar.specs.RangedWords.{Literals, atom_of, judged_range, record_with, rule_answer, use_drawn}
-use Rattle.desugar.specs.declared.bindings.Variable.{Variable}
-use Rattle.desugar.specs.declared.bindings.Variable.TheVariants as variable-found
-use Rattle.desugar.specs.declared.went.Walked.{Walked}
-use Rattle.desugar.specs.declared.went.Went.{Went}
+use Rattle.desugar.specs.BindingWords.{CoreAt, VariableFound}
+use Rattle.desugar.specs.WalkWords.{Came, WalkedAs, use_of, where_of}
+use Rattle.desugar.specs.RangedWords.{UseIn, is_direct, atom_of, judged_range, record_in, rule_answer, use_drawn}
 use Rattle.desugar.proofs.Regions.{kept_sets, length_words, stored}
 use Rattle.desugar.proofs.LeafKinds.{kinds_in, of}
 
 -- ## A draw
 
-pub same_walk : {x y : Answer (Core × Meter)} (used next top allowance levels : ℕ) (xs xs' : List ℕ) (r : Walked)
+pub same_walk : {x y : Answer (Core × Meter)} (used next top allowance levels : ℕ) (xs xs' : List ℕ) (r : Result Walked Refused)
     → x ≡ y → WalkedAs y used next top allowance levels xs xs' r → WalkedAs x used next top allowance levels xs xs' r
 same_walk used next top allowance levels xs xs' r e w = subst (λ z. WalkedAs z used next top allowance levels xs xs' r) (sym e) w
 
-pub same_came : {x y : Answer (Core × Meter)} {used next top allowance levels : ℕ} {xs xs' : List ℕ} {w : Went}
+pub same_came : {x y : Answer (Core × Meter)} {used next top allowance levels : ℕ} {xs xs' : List ℕ} {w : Walked}
     → x ≡ y → Came y used next top allowance levels xs xs' w → Came x used next top allowance levels xs xs' w
 same_came {used = used} {next} {top} {allowance} {levels} {xs} {xs'} {w} e c = subst (λ z. Came z used next top allowance levels xs xs' w) (sym e) c
 
@@ -85,40 +90,19 @@ field_atom h l m =
 
 -- ## A variable
 
-abbrev at_in : Variable → ℕ
-at_in (variable-found.At at count) = at
-at_in variable-found.Unbound = 0
-
-abbrev count_in : Variable → ℕ
-count_in (variable-found.At at count) = count
-count_in variable-found.Unbound = 0
-
-abbrev is_bound : Variable → ℕ
-is_bound (variable-found.At at count) = 1
-is_bound variable-found.Unbound = 0
-
 -- the core that was found
-pub record CoreFound (xs : List ℕ) (last : ℕ) (o : Option Core) (at count : ℕ) : Type 0 where
+pub record CoreFound (xs : List ℕ) (last : ℕ) (o : Option Core) (r : Region) : Type 0 where
   pub core : Core
   pub is : o ≡ some core
-  pub lies : Lies xs at count core
-  pub below : at + 3 * count ≤ last
+  pub at : CoreAt xs last core r
 
-pub core_found : (xs : List ℕ) (last : ℕ) (o : Option Core) (r : Variable) (at count : ℕ) → VariableTold xs last o r → r ≡ variable-found.At at count → CoreFound xs last o at count
-core_found xs last (some c) r at count t e =
-    let a : t.at ≡ at = ap at_in (sym t.is ∙ e) in
-    let n : t.count ≡ count = ap count_in (sym t.is ∙ e) in
-    record {
-      core = c;
-      is = refl;
-      lies = subst (λ (j : ℕ). Lies xs at j c) n (subst (λ (j : ℕ). Lies xs j t.count c) a t.lies);
-      below = omega (arith, t.below);
-    }
-core_found xs last none r at count t e = let z : ◌≡◌ {A = ℕ} 0 1 = ap is_bound (sym t ∙ e) in absurd (omega arith)
+pub core_found : (xs : List ℕ) (last : ℕ) (o : Option Core) (r : Region) → VariableFound xs last o (std.Some r) → CoreFound xs last o r
+core_found xs last (some c) r t = record { core = c; is = refl; at = t }
+core_found xs last none r t = absurd (some_none (ap (std.option_map (λ _. 0)) t))
 
-pub none_found : (xs : List ℕ) (last : ℕ) (o : Option Core) (r : Variable) → VariableTold xs last o r → r ≡ variable-found.Unbound → o ≡ none
-none_found xs last (some c) r t e = let z : ◌≡◌ {A = ℕ} 1 0 = ap is_bound (sym t.is ∙ e) in absurd (omega arith)
-none_found xs last none r t e = refl
+pub none_found : (xs : List ℕ) (last : ℕ) (o : Option Core) → VariableFound xs last o std.None → o ≡ none
+none_found xs last (some c) t = absurd t
+none_found xs last none t = refl
 
 module _ (env : Env Core) (x : Name) (at : ℕ) (k : Meter) where
   pub variable_drawn : (c : Core) → lookup_variable env x ≡ some c → desugar env (Var x) at k ≡ drawing (size c) at c k
@@ -144,16 +128,12 @@ module _ (env : Env Core) (w : Where) (u : Use) (at : ℕ) where
   pub range_unknown : find_range env w ≡ none → judged_range env w u at ≡ refuse 11 at
   range_unknown e = rw e refl
 
-  module _ (r : ℕ × ℕ) (rule : ℕ) (known : find_range env w ≡ some r) (judged : rule_answer rule at ≡ range_rule w u r at) where
-    pub rule_broken : (rule ≡ 0 → ⊥) → judged_range env w u at ≡ refuse rule at
-    rule_broken h =
-        let q : range_rule w u r at ≡ refuse rule at = sym judged ∙ rw (ne_eqb rule 0 h) refl in
-        rw (known, q) refl
+  module _ {r : ℕ × ℕ} (known : find_range env w ≡ some r) where
+    pub rule_broken : {n : ℕ} → refuse n at ≡ range_rule w u r at → judged_range env w u at ≡ refuse n at
+    rule_broken q = rw (known, sym q) refl
 
-    pub rules_kept : rule ≡ 0 → judged_range env w u at ≡ ok r
-    rules_kept h =
-        let q : range_rule w u r at ≡ ok tt = sym judged ∙ rw h refl in
-        rw (known, q) refl
+    pub rules_kept : ok tt ≡ range_rule w u r at → judged_range env w u at ≡ ok r
+    rules_kept q = rw (known, sym q) refl
 
   -- a refusal stops the desugaring; else what is left is the draw
   pub range_stops : (k : Meter) {n p : ℕ} → judged_range env w u at ≡ refuse n p → desugar env (Ranged w u) at k ≡ refuse n p
@@ -193,8 +173,54 @@ whole : (s : List ℕ) (at bits : ℕ) → at + bytes_for bits ≤ length s → 
 whole s at bits h =
     length-take-le bits (unpack (part at s)) (omega (arith, length_unpack (part at s), ap length (part_is at s), length-drop at s))
 
-pub literals_whole : (s : List ℕ) (h : Head) → HeadInside s (head.Found h) → Literals (part h.a.at s) (part h.b.at s) h
-literals_whole s h i = record { first = whole s h.a.at h.a.bits i.2; second = whole s h.b.at h.b.bits i.3 }
+-- a literal's rule looks at no more of the range than whether it is written out
+literal_direct : (w w' : Where) (a : Bits) (n at : ℕ) → is_direct w ≡ is_direct w' → literal_rule w a n at ≡ literal_rule w' a n at
+literal_direct (Direct s e) (Direct s' e') a n at d = refl
+literal_direct (Direct s e) (Alias x) a n at d = absurd (true≢false d)
+literal_direct (Alias x) (Direct s e) a n at d = absurd (false≢true d)
+literal_direct (Alias x) (Alias y) a n at d = refl
 
-pub record_is : (s : List ℕ) (h : Head) → record_with (part h.a.at s) (part h.b.at s) h ≡ record_of s h
-record_is s h = λ i. record_with (part_is h.a.at s i) (part_is h.b.at s i) h
+use_direct : (w w' : Where) (u : Use) (n at : ℕ) → is_direct w ≡ is_direct w' → use_rule w u n at ≡ use_rule w' u n at
+use_direct w w' (Assigns a) n at d = literal_direct w w' a n at d
+use_direct w w' (Tests a) n at d = literal_direct w w' a n at d
+use_direct w w' (Matches m) n at d = refl
+
+direct_is : (h : Record) → is_direct (where_of h) ≡ (leb 23 h.kind && leb h.kind 25)
+direct_is h = go (leb 23 h.kind && leb h.kind 25)
+  where
+    go : (b : Bool) → is_direct (cond b (Direct h.start h.end) (Alias h.name)) ≡ b
+    go true = refl
+    go false = refl
+
+pub rule_same : (h g : Record) → h.kind ≡ g.kind → use_of h ≡ use_of g → (r : ℕ × ℕ) (at : ℕ)
+    → range_rule (where_of h) (use_of h) r at ≡ range_rule (where_of g) (use_of g) r at
+rule_same h g k e r at =
+    ap (λ (u : Use). range_rule (where_of h) u r at) e
+    ∙ ap (λ x. and_then (need (leb r.0 r.1) 14 at) λ _. x)
+    (use_direct (where_of h) (where_of g) (use_of g) (r.1 - r.0) at (direct_is h ∙ ap (λ n. leb 23 n && leb n 25) k ∙ sym (direct_is g)))
+
+-- a use whose literals are parts of the bytes s
+pub use_found : (s : List ℕ) (h : Head) (u : read.Use) → HeadInside s (Ok h) → u.kind ≡ h.kind → u.pattern ≡ h.pattern → u.number ≡ h.number
+    → u.a.len ≡ h.a.bits → u.a.bytes.now ≡ part h.a.at s → u.b.len ≡ h.b.bits → u.b.bytes.now ≡ part h.b.at s → UseIn s h u
+use_found s h u i k p n al ab bl bb =
+    let first : literal_bits u.a ≡ (record_of s h).lit_a = λ j. take (al j) (unpack ((ab ∙ part_is h.a.at s) j)) in
+    let second : literal_bits u.b ≡ (record_of s h).lit_b = λ j. take (bl j) (unpack ((bb ∙ part_is h.b.at s) j)) in
+    let same : use_of (record_in u) ≡ use_of (record_of s h) =
+    λ j. use_of (record {
+      kind = kind_number (k j);
+      name = 0;
+      start = 0;
+      end = 0;
+      pattern = pattern_number (p j);
+      number = n j;
+      lit_a = first j;
+      lit_b = second j;
+    }) in
+    record {
+      whole = record {
+        first = (λ j. length (take (al j) (unpack (ab j)))) ∙ whole s h.a.at h.a.bits i.2 ∙ sym al;
+        second = (λ j. length (take (bl j) (unpack (bb j)))) ∙ whole s h.b.at h.b.bits i.3 ∙ sym bl;
+      };
+      same = same;
+      rule = rule_same (record_in u) (record_of s h) (ap kind_number k) same;
+    }

@@ -11,11 +11,10 @@ use lib.Seq.{sets}
 use Rattle.literals.specs.Bits.{Bits, bit}
 use Rattle.expr.specs.Terms.{Core, Intersect, One, Test, leaf, size}
 use Rattle.desugar.specs.Costs.{chain_size, clear}
-use Rattle.desugar.specs.LeafWords.{Tested, linked, stretch, tested, trim}
+use Rattle.desugar.specs.LeafWords.{linked, stretch, trim}
 use Rattle.desugar.specs.Leaves.{chain, masked_tests}
 use Rattle.desugar.specs.Memory.{words, size_all}
-use Rattle.desugar.proofs.Chains.{length_linked, length_stretch, link_last, linked_append, size_chain, stretch_more, suc_shift}
-use Rattle.desugar.proofs.Regions.{sets_append}
+use Rattle.desugar.proofs.Chains.{length_linked, length_stretch, link_last, link_more, size_chain, stretch_more, suc_shift}
 
 -- ## How many they are
 
@@ -78,6 +77,10 @@ masked_append s (x ∷ a) (false ∷ m) b c h =
 abbrev pub lows : ℕ → Bits → Bits → ℕ → List Core
 lows s a m i = masked_tests s (stretch a 0 i) (stretch m 0 i)
 
+-- the test of bit i of an address, where its mask is false
+abbrev tested : ℕ → Bits → Bits → ℕ → List Core
+tested s a m i = cond (get_or m i false) [] (leaf (Test (s + i) (get_or a i false)) ∷ [])
+
 module _ (s : ℕ) (a m : Bits) where
   lows_more : (i : ℕ) → lows s a m (suc i) ≡ lows s a m i ++ tested s a m i
   lows_more i =
@@ -112,14 +115,14 @@ trim_last m (suc w) e h = go (get_or m w false) refl h (trim_last m w e)
     go true f g r = r g
     go false f g r = let same : w ≡ e = omega arith in ap (λ k. get_or m k false) (sym same) ∙ f
 
-pub trim_more : (m : Bits) {w e : ℕ} → w ≡ suc e → get_or m e false ≡ true → trim m w ≡ trim m e
-trim_more m {w} {e} h t = ap (trim m) h ∙ ap (λ b. cond b (trim m e) (suc e)) t
-
-pub trim_here : (m : Bits) {w e : ℕ} → w ≡ suc e → get_or m e false ≡ false → trim m w ≡ w
-trim_here m {w} {e} h t = ap (trim m) h ∙ ap (λ b. cond b (trim m e) (suc e)) t ∙ sym h
-
 pub clear_next : (m : Bits) (i : ℕ) → clear (stretch m 0 (i + 1)) ≡ clear (stretch m 0 i) + cond (get_or m i false) 0 1
 clear_next m i = rw (add-one i) (clear_more m i)
+
+pub clear_one : (m : Bits) (i : ℕ) → get_or m i false ≡ false → clear (stretch m 0 (i + 1)) ≡ clear (stretch m 0 i) + 1
+clear_one m i e = clear_next m i ∙ ap (λ b. clear (stretch m 0 i) + cond b 0 1) e
+
+pub clear_none : (m : Bits) (i : ℕ) → get_or m i false ≡ true → clear (stretch m 0 (i + 1)) ≡ clear (stretch m 0 i)
+clear_none m i e = clear_next m i ∙ ap (λ b. clear (stretch m 0 i) + cond b 0 1) e ∙ add-zero (clear (stretch m 0 i))
 
 -- the highest bit of a mask that is false is one of its bits, and not among those below it
 pub clear_last : (m : Bits) (w e : ℕ) → trim m w ≡ suc e → (e < w) × (clear (stretch m 0 e) + 1 ≤ clear (stretch m 0 w))
@@ -129,17 +132,6 @@ clear_last m w e h =
     (t, omega (arith, clear_more m e, clear_below m (suc e) w t))
 
 -- ## Writing
-
-module _ (s : ℕ) (a m : Bits) (i : ℕ) (xs : List ℕ) (at : ℕ) where
-  pub tested_none : get_or m i false ≡ true → Tested s a m i xs at xs at
-  tested_none e = record { written = rw e; next = rw e (omega arith) }
-
-  pub tested_one : get_or m i false ≡ false → {b : Bool} → b ≡ get_or a i false → {ys : List ℕ}
-      → ys ≡ sets xs at (8 ∷ 0 ∷ 0 ∷ 6 ∷ (s + i) ∷ bit b ∷ []) → Tested s a m i xs at ys (at + 6)
-  tested_one e {b} next {ys} f =
-      let g : ys ≡ sets xs at (linked Intersect (leaf (Test (s + i) (get_or a i false)) ∷ [])) =
-      f ∙ (λ j. sets xs at (8 ∷ 0 ∷ 0 ∷ 6 ∷ (s + i) ∷ bit (next j) ∷ [])) in
-      record { written = rw e g; next = rw e (omega arith) }
 
 -- what is written so far are the tests of the lowest i bits
 module _ (s : ℕ) (a m : Bits) (i : ℕ) (l : List ℕ) (at : ℕ) {to : ℕ} {xs : List ℕ}
@@ -154,13 +146,20 @@ module _ (s : ℕ) (a m : Bits) (i : ℕ) (l : List ℕ) (at : ℕ) {to : ℕ} {
         length_masked s (stretch a 0 i) (stretch m 0 i) same,
       )
 
-  pub masked_more : {ys : List ℕ} {r : ℕ} → Tested s a m i xs to ys r → ys ≡ sets l at (linked Intersect (lows s a m (i + 1)))
-  masked_more step =
-      let own : List ℕ = linked Intersect (tested s a m i) in
-      step.written
-      ∙ (λ j. sets (sofar j) (end j) own)
-      ∙ sets_append l at (linked Intersect (lows s a m i)) own
-      ∙ ap (sets l at) (sym (linked_append Intersect (lows s a m i) (tested s a m i)) ∙ ap (linked Intersect) (sym (lows_more s a m i) ∙ ap (lows s a m) (sym (add-one i))))
+  -- the tests of one bit more, by whether it has one
+  lows_next : {c : Bool} → get_or m i false ≡ c → lows s a m i ++ cond c [] (leaf (Test (s + i) (get_or a i false)) ∷ []) ≡ lows s a m (i + 1)
+  lows_next e =
+      ap (λ c. lows s a m i ++ cond c [] (leaf (Test (s + i) (get_or a i false)) ∷ [])) (sym e) ∙ sym (lows_more s a m i) ∙ ap (lows s a m) (sym (add-one i))
+
+  pub masked_skip : get_or m i false ≡ true → xs ≡ sets l at (linked Intersect (lows s a m (i + 1)))
+  masked_skip e = sofar ∙ ap (λ (cs : List Core). sets l at (linked Intersect cs)) (sym (append-nil (lows s a m i)) ∙ lows_next e)
+
+  pub masked_link : get_or m i false ≡ false → {b : Bool} → b ≡ get_or a i false
+      → sets xs to (8 ∷ 0 ∷ 0 ∷ 6 ∷ (s + i) ∷ bit b ∷ []) ≡ sets l at (linked Intersect (lows s a m (i + 1)))
+  masked_link e next =
+      (λ j. sets (sofar j) to (8 ∷ 0 ∷ 0 ∷ 6 ∷ (s + i) ∷ bit (next j) ∷ []))
+      ∙ link_more Intersect (lows s a m i) (leaf (Test (s + i) (get_or a i false))) l at end
+      ∙ ap (λ (cs : List Core). sets l at (linked Intersect cs)) (lows_next e)
 
   pub masked_last : (w : ℕ) → trim m w ≡ suc i → {b : Bool} → b ≡ get_or a i false
       → sets xs to (6 ∷ (s + i) ∷ bit b ∷ []) ≡ sets l at (words (chain Intersect One (lows s a m w)))

@@ -1,8 +1,8 @@
 -- The notes in memory: how a record's note is found from those of its operands, and a turn of the backward pass.
 use mathlib.Core.Path.{◌≡◌, refl, sym, ap, ◌∙◌, subst}
 use mathlib.Core.Bool.{Bool, true, false, cond, ◌&&◌, false≢true}
-use mathlib.Core.List.{List, [], ◌∷◌, ◌++◌, append-nil}
-use Prim.Native.Nat.{ℕ, zero, suc, ◌+◌, ◌*◌, ◌-◌, ◌/◌, ◌%◌, ◌^◌, ◌≤◌, ◌<◌}
+use mathlib.Core.List.{List, [], ◌∷◌, ◌++◌}
+use Prim.Native.Nat.{ℕ, suc, ◌+◌, ◌*◌, ◌-◌, ◌/◌, ◌%◌, ◌^◌, ◌≤◌, ◌<◌}
 use native.Mathlib.Omega.{arith}
 use lib.Dec.{eqb}
 use lib.ListN.{length, get_or, set}
@@ -12,9 +12,11 @@ use Rattle.literals.specs.Bits.{bit}
 use Rattle.literals.proofs.Logic.{and_left}
 use Rattle.literals.proofs.Bits.{bit_small}
 use Rattle.expr.specs.Terms.{Atom, Op2, Core, leaf, one, two, Zero, One, Top, Dup, End, Assign, Test, Union, Intersect, Xor, Difference, Sequence, LtlUntil, atom_kind, op2_kind, size}
+use Rattle.desugar.specs.declared.test_negation.notes.Note.{Note}
+use Rattle.desugar.specs.declared.test_negation.places.Places.{Places}
 use Rattle.desugar.specs.Negation.{is_test, is_one, again}
 use Rattle.desugar.specs.Memory.{Holds, Kept, Lies, size_all}
-use Rattle.desugar.specs.NegationRun.{core_kind, operands, all_test, opened, forest_at, one_again, note, notes_of, notes_all, left_at, right_at, leaf_note, pair_one, pair_note, note_at, TwoNotes, Parts, CanNote}
+use Rattle.desugar.specs.NegationRun.{core_kind, operands, all_test, opened, forest_at, one_again, note, notes_of, notes_all, left_at, right_at, leaf_note, pair_note, note_at, note_number, TwoNotes, CanNote}
 use Rattle.desugar.proofs.Regions.{moved, right, head, cons, over, same_at, kept_then, kept_sets, size_pos}
 use Rattle.desugar.proofs.Forest.{At, at, notes_open, notes_long, notes_all_long, size_at, tests_at, leaf_kind, op_kind}
 
@@ -103,40 +105,6 @@ two_notes xs i (two o a b) cs t s k h =
     let p : Pair xs i a b = pair a b cs h in
     record { left_in = p.left_in; right_in = p.right_in; small = omega (arith, p.left, p.right, bit_small (one_again a), bit_small (one_again b)) }
 
--- ## A note written from the parts of the note behind it
-
--- two bits' product
-pub bits_product : (x y : ℕ) → x ≤ 1 → y ≤ 1 → x * y ≡ bit (eqb x 1 && eqb y 1)
-bits_product zero y p q = omega arith
-bits_product (suc zero) zero p q = refl
-bits_product (suc zero) (suc zero) p q = refl
-bits_product (suc zero) (suc (suc y)) p q = absurd (omega arith)
-bits_product (suc (suc x)) y p q = absurd (omega arith)
-
-pub wrote_parts : (xs : List ℕ) (i v s o : ℕ) → i < length xs → v ≡ 2 * s + o → o ≤ 1 → Parts (get_or (set xs i v) i 0) s o
-wrote_parts xs i v s o l e b = rw (get_or-set_same xs i v 0 l) (record { size_is = omega arith; one_is = omega arith })
-
-pub leaf_note_range : {v : ℕ} (kind : ℕ) → v ≡ leaf_note kind → (2 ≤ v) × (v ≤ 3)
-leaf_note_range kind e = (omega arith, omega (arith, bit_small (eqb kind 1)))
-
--- an operator's record at here and its note at i: s and o are the parts of its left operand's note, at w the code reads the right one's
-module _ (xs : List ℕ) (i : ℕ) {s o w : ℕ} (parts : Parts (left_at xs i) s o) (is-w : w ≡ s) where
-  right_is : get_or xs (i + 1 + w) 0 ≡ right_at xs i
-  right_is = same_at xs (omega (arith, parts.size_is))
-
-  pub right_in : TwoNotes xs i → i + 1 + w < length xs
-  right_in h = omega (arith, parts.size_is, h.right_in)
-
-  pub pair_fits : TwoNotes xs i → 2 * (s + get_or xs (i + 1 + w) 0 / 2 + 1) + 1 < 2 ^ 32
-  pair_fits h = omega (arith, parts.size_is, right_is, h.small)
-
-  module _ (here : ℕ) {b : ℕ} (is_b : b ≡ pair_one (get_or xs here 0) o (get_or xs (i + 1 + w) 0 % 2)) where
-    pub pair_bit : b ≤ 1
-    pair_bit = omega (arith, is_b, bit_small (eqb (get_or xs here 0) 11 && (eqb o 1 && eqb (get_or xs (i + 1 + w) 0 % 2) 1)))
-
-    pub pair_noted : 7 ≤ get_or xs here 0 → 2 * (s + get_or xs (i + 1 + w) 0 / 2 + 1) + b ≡ note_at xs here i
-    pair_noted k = rw (is_b, right_is, parts.size_is, parts.one_is, le-ltb (get_or xs here 0) 7 k)
-
 -- an operator has an operand
 op_size : (c : Core) → 7 ≤ core_kind c → 2 ≤ size c
 op_size (leaf p) k = absurd (omega (arith, leaf_kind p))
@@ -145,50 +113,44 @@ op_size (two o a b) k = omega (arith, size_pos a)
 
 -- ## A turn of the backward pass, at record j
 
-module _ {xs₀ xs : List ℕ} {notes : ℕ} (from n j : ℕ) (small : n < 2 ^ 30) (below : from + 3 * n ≤ notes) (room : notes + n ≤ length xs₀) (kept : Kept notes xs₀ xs) (l : j < n) where
-  module _ (t : Core) (lies : Lies xs₀ from n t) (test : is_test t ≡ true) (done : Holds xs (notes + suc j) (notes_all (forest_at (suc j) (t ∷ [])))) where
-    spot : At xs₀ (from + 3 * j) j t
+module _ {xs₀ xs : List ℕ} (p : Places) (j : ℕ) (room : p.notes + p.n ≤ length xs₀) (kept : Kept p.notes xs₀ xs) (l : j < p.n) where
+  module _ (t : Core) (lies : Lies xs₀ p.at p.n t) (test : is_test t ≡ true) (done : Holds xs (p.notes + suc j) (notes_all (forest_at (suc j) (t ∷ [])))) where
+    spot : At xs₀ (p.at + 3 * j) j t
     spot = at t lies j l
 
     is_test_fact : is_test spot.core ≡ true
     is_test_fact = and_left (is_test spot.core) (all_test spot.others) (ap all_test (sym spot.is) ∙ tests_at j (t ∷ []) (ap (λ (b : Bool). b && true) test))
 
-    is_kind : get_or xs (from + 3 * j) 0 ≡ core_kind spot.core
-    is_kind = kept.each (from + 3 * j) (omega arith) ∙ spot.spot.kind
+    is_kind : get_or xs (p.at + 3 * j) 0 ≡ core_kind spot.core
+    is_kind = kept.each (p.at + 3 * j) (omega (arith, p.notes_at)) ∙ spot.spot.kind
 
-    after : Holds xs (notes + j + 1) (notes_all (operands spot.core ++ spot.others))
+    after : Holds xs (p.notes + j + 1) (notes_all (operands spot.core ++ spot.others))
     after = moved done (omega arith) (ap (λ (fs : List Core). notes_all (opened fs)) spot.is)
 
-    inner : 7 ≤ core_kind spot.core → suc j < n
+    inner : 7 ≤ core_kind spot.core → suc j < p.n
     inner k = omega (arith, op_size spot.core k, ap size_all spot.is, size_at j (t ∷ []), lies.count)
 
-    pub turn_can : {s o : ℕ} → (suc j < n → Parts (left_at xs (notes + j)) s o) → CanNote xs (from + 3 * j) (notes + j) s o
+    pub turn_can : {a : Note} → (suc j < p.n → note_number a ≡ left_at xs (p.notes + j)) → CanNote xs (p.at + 3 * j) (p.notes + j) a
     turn_can last = record {
-      here_in = omega (arith, kept.long);
+      here_in = omega (arith, kept.long, p.notes_at);
       note_in = omega (arith, kept.long);
-      operands_in = λ k. two_notes xs (notes + j) spot.core spot.others is_test_fact (omega (arith, ap size_all spot.is, size_at j (t ∷ []), lies.count)) (omega (arith, is_kind)) after;
-      parts = λ k. last (inner (omega (arith, is_kind)));
+      operands_in = λ k. two_notes xs (p.notes + j) spot.core spot.others is_test_fact (omega (arith, ap size_all spot.is, size_at j (t ∷ []), lies.count, p.small)) (omega (arith, is_kind)) after;
+      first = λ k. last (inner (omega (arith, is_kind)));
     }
 
-    pub turn_notes : Holds (set xs (notes + j) (note_at xs (from + 3 * j) (notes + j))) (notes + j) (notes_all (forest_at j (t ∷ [])))
+    pub turn_notes : Holds (set xs (p.notes + j) (note_at xs (p.at + 3 * j) (p.notes + j))) (p.notes + j) (notes_all (forest_at j (t ∷ [])))
     turn_notes =
         moved
         (cons
-        (get_or-set_same xs (notes + j) (note_at xs (from + 3 * j) (notes + j)) 0 (omega (arith, kept.long))
-        ∙ note_is xs (from + 3 * j) (notes + j) spot.core spot.others is_test_fact is_kind after)
-        (over (notes + j) (note_at xs (from + 3 * j) (notes + j) ∷ []) (omega arith) after))
+        (get_or-set_same xs (p.notes + j) (note_at xs (p.at + 3 * j) (p.notes + j)) 0 (omega (arith, kept.long))
+        ∙ note_is xs (p.at + 3 * j) (p.notes + j) spot.core spot.others is_test_fact is_kind after)
+        (over (p.notes + j) (note_at xs (p.at + 3 * j) (p.notes + j) ∷ []) (omega arith) after))
         refl
         (sym (notes_open spot.core spot.others) ∙ ap notes_all (sym spot.is))
 
-  pub turn_kept : Kept notes xs₀ (set xs (notes + j) (note_at xs (from + 3 * j) (notes + j)))
-  turn_kept = kept_then kept (kept_sets notes xs (notes + j) (note_at xs (from + 3 * j) (notes + j) ∷ []) (omega arith))
+  pub turn_kept : Kept p.notes xs₀ (set xs (p.notes + j) (note_at xs (p.at + 3 * j) (p.notes + j)))
+  turn_kept = kept_then kept (kept_sets p.notes xs (p.notes + j) (note_at xs (p.at + 3 * j) (p.notes + j) ∷ []) (omega arith))
 
 -- what is noted from k on, where k is no 0
 pub back : {xs : List ℕ} (notes k : ℕ) (t : Core) → 0 < k → Holds xs (notes + k) (notes_all (forest_at k (t ∷ []))) → Holds xs (notes + suc (k - 1)) (notes_all (forest_at (suc (k - 1)) (t ∷ [])))
 back {xs} notes k t l h = subst (λ (m : ℕ). Holds xs (notes + m) (notes_all (forest_at m (t ∷ [])))) (omega arith) h
-
--- all is noted where k is 0
-pub whole : {xs : List ℕ} (notes k : ℕ) (t : Core) → k ≤ 0 → Holds xs (notes + k) (notes_all (forest_at k (t ∷ []))) → Holds xs notes (notes_of t)
-whole {xs} notes k t l h =
-    let e : k ≡ 0 = omega arith in
-    moved (subst (λ (m : ℕ). Holds xs (notes + m) (notes_all (forest_at m (t ∷ [])))) e h) (omega arith) (append-nil (notes_of t))

@@ -8,40 +8,33 @@ use borrow.Author.Tests.{leb-true, le-leb}
 use lib.Dec.{leb}
 use lib.ListN.{length}
 use Rattle.expr.specs.Terms.{Core, size}
-use Rattle.desugar.specs.declared.test_negation.negated.Negated.{Negated}
-use Rattle.desugar.specs.declared.test_negation.negated.Negated.TheVariants.{Size, TooLarge}
-use Rattle.desugar.specs.declared.test_negation.Outcome.TheVariants.{NotTest}
-use Rattle.desugar.specs.declared.test_negation.Outcome.TheVariants
+use Rattle.std.specs.Prelude.{Option, Some, None, Ok, Err}
+use Rattle.desugar.specs.declared.test_negation.NegationError.TheVariants.{TooLarge}
 use Rattle.desugar.specs.Negation.{is_test, negate}
 use Rattle.desugar.specs.Memory.{words, Holds, Kept, Lies}
-use Rattle.desugar.specs.NegationOutcome.{Layout, outcome, Negates}
+use Rattle.desugar.specs.declared.test_negation.places.Places.{Places}
+use Rattle.desugar.specs.NegationOutcome.{Negates}
 use Rattle.desugar.specs.NegationRun.{notes_of, Noted, within, Result}
 use Rattle.desugar.proofs.Regions.{kept_holds, length_words}
 
 -- ## What an answer says
 
-within_size : (b : Bool) (n s : ℕ) → Size s ≡ within b n → (s ≡ n) × (b ≡ true)
+within_size : (b : Bool) (n s : ℕ) → Some s ≡ within b n → (s ≡ n) × (b ≡ true)
 within_size true n s e = (cc, refl)
 within_size false n s e = let z : ◌≡◌ {A = ℕ} 0 1 = cc in absurd (omega arith)
 
-within_large : (b : Bool) (n : ℕ) → TooLarge ≡ within b n → b ≡ false
+within_large : (b : Bool) (n : ℕ) → None ≡ within b n → b ≡ false
 within_large false n e = refl
 within_large true n e = let z : ◌≡◌ {A = ℕ} 0 1 = cc in absurd (omega arith)
 
-pub size_is : {xs : List ℕ} {c : Core} {out limit s : ℕ} {r : Negated} → Result xs c out limit r → r ≡ Size s → (s ≡ size (negate c)) × (size (negate c) ≤ limit)
+pub size_is : {xs : List ℕ} {c : Core} {out limit s : ℕ} {r : Option ℕ} → Result xs c out limit r → r ≡ Some s → (s ≡ size (negate c)) × (size (negate c) ≤ limit)
 size_is {xs} {c} {out} {limit} {s} h e =
     let w : (s ≡ size (negate c)) × (leb (size (negate c)) limit ≡ true) = within_size (leb (size (negate c)) limit) (size (negate c)) s (sym e ∙ h.is) in
     (w.0, leb-true _ _ w.1)
 
 -- ## The three endings
 
-pub no_test_fact : {xs : List ℕ} {c : Core} {at limit : ℕ} → is_test c ≡ false → Negates xs c at limit NotTest
-no_test_fact {xs} {c} {at} {limit} e = record {
-  is = sym (ap (λ (b : Bool). outcome b (leb (size (negate c)) limit) (size (negate c))) e);
-  holds = λ t l. absurd (true≢false (sym t ∙ e));
-}
-
-pub large : {xs : List ℕ} {c : Core} {at out limit : ℕ} {r : Negated} → is_test c ≡ true → Result xs c out limit r → r ≡ TooLarge → Negates xs c at limit TheVariants.TooLarge
+pub large : {xs : List ℕ} {c : Core} {at out limit : ℕ} {r : Option ℕ} → is_test c ≡ true → Result xs c out limit r → r ≡ None → Negates xs c at limit (Err TooLarge)
 large {xs} {c} {at} {out} {limit} t h e =
     let w : leb (size (negate c)) limit ≡ false = within_large (leb (size (negate c)) limit) (size (negate c)) (sym e ∙ h.is) in
     record {
@@ -49,8 +42,8 @@ large {xs} {c} {at} {out} {limit} t h e =
       holds = λ u l. absurd (true≢false (sym (le-leb (size (negate c)) limit l) ∙ w));
     }
 
-pub fits : {xs xs' : List ℕ} {c : Core} {at out limit s : ℕ} {r : Negated} → is_test c ≡ true → Result xs c out limit r → r ≡ Size s
-    → ((ys : List ℕ) → length ys ≡ 3 * s → Holds xs out ys → Holds xs' at ys) → Negates xs' c at limit (TheVariants.Size s)
+pub fits : {xs xs' : List ℕ} {c : Core} {at out limit s : ℕ} {r : Option ℕ} → is_test c ≡ true → Result xs c out limit r → r ≡ Some s
+    → ((ys : List ℕ) → length ys ≡ 3 * s → Holds xs out ys → Holds xs' at ys) → Negates xs' c at limit (Ok s)
 fits {xs} {xs'} {c} {at} {out} {limit} {s} t h e moved =
     let w : (s ≡ size (negate c)) × (size (negate c) ≤ limit) = size_is h e in
     record {
@@ -60,12 +53,11 @@ fits {xs} {xs'} {c} {at} {out} {limit} {s} t h e moved =
 
 -- ## The operand is noted where it lay
 
-pub noted_after : {xs xs' : List ℕ} {at n notes modes out limit : ℕ} {b : Bool} → Layout (length xs) at n notes modes out limit
-    → ((c : Core) → Lies xs at n c → b ≡ is_test c) → b ≡ true
-    → Kept notes xs xs' → ((c : Core) → Lies xs at n c → is_test c ≡ true → Holds xs' notes (notes_of c))
-    → (c : Core) → Lies xs at n c → Noted xs' at n notes c
-noted_after lay asked e kept noted c lies = record {
-  lies = record { holds = kept_holds kept (omega (arith, length_words c, lies.count, lay.notes_at)) lies.holds; count = lies.count };
+pub noted_after : {xs xs' : List ℕ} (p : Places) {b : Bool} → ((c : Core) → Lies xs p.at p.n c → b ≡ is_test c) → b ≡ true
+    → Kept p.notes xs xs' → ((c : Core) → Lies xs p.at p.n c → is_test c ≡ true → Holds xs' p.notes (notes_of c))
+    → (c : Core) → Lies xs p.at p.n c → Noted xs' p c
+noted_after p asked e kept noted c lies = record {
+  lies = record { holds = kept_holds kept (omega (arith, length_words c, lies.count, p.notes_at)) lies.holds; count = lies.count };
   test = sym (asked c lies) ∙ e;
   noted = noted c lies (sym (asked c lies) ∙ e);
 }

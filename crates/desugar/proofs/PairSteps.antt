@@ -6,6 +6,9 @@ use Prim.Native.Nat.{ℕ, ◌+◌, ◌*◌, ◌≤◌}
 use native.Mathlib.Nat.{sub-zero}
 use native.Mathlib.Omega.{arith}
 use lib.ListN.{length, length-append}
+use Rattle.std.specs.Prelude.{Result, Ok, Err}
+use Rattle.refusals.specs.declared.Refused.{Refused}
+use Rattle.desugar.specs.declared.went.Walked.{Walked}
 use Rattle.literals.proofs.Logic.{leb_is}
 use Rattle.expr.specs.Answers.{Answer, ok, refuse, and_then}
 use Rattle.expr.specs.Terms.{Op2, Union, Intersect, Xor, Difference, Sequence, LtlUntil, Core, two, Expr, Binary, Let, Name, op2_kind, records}
@@ -18,9 +21,6 @@ use Rattle.desugar.specs.Desugar.{desugar}
 use Rattle.desugar.specs.Memory.{Kept, Lies}
 use Rattle.desugar.specs.BindingWords.{Bound, FrameRoom}
 use Rattle.desugar.specs.WalkWords.{TermsAt, Came, WalkedAs, Ready, ReadyTwo, Operator2, drops, JoinRoom}
-use Rattle.desugar.specs.declared.went.Went.{Went}
-use Rattle.desugar.specs.declared.went.Walked.{Walked}
-use Rattle.desugar.specs.declared.went.Walked.TheVariants.{Done}
 use Rattle.desugar.proofs.Regions.{kept_then, kept_less}
 use Rattle.desugar.proofs.Frames.{bound_kept, lies_kept}
 use Rattle.desugar.proofs.WalkLaws.{rest_at, stack_moved, ready_first, lies_inside, Visited, Settled, wider, then_ok, then_refused}
@@ -52,13 +52,13 @@ module _ {s xs : List ℕ} {from l last top a : ℕ} (place : ℕ) (q : ReadyTwo
   abbrev x₁ : Answer (Core × Meter)
   x₁ = desugar q.env q.first (place + 1) (left a)
 
-  abbrev Told : Expr → List ℕ → Walked → Type 0
+  abbrev Told : Expr → List ℕ → Result Walked Refused → Type 0
   Told e ys r =
       WalkedAs (desugar q.env e place (left a)) (from + length (encode_all (q.first ∷ q.second ∷ [])))
       (place + 1 + records q.first + records q.second) top a (l + 1) xs ys r
 
   -- the first operand's core is settled
-  module _ {w : Went} {xs₂ : List ℕ} {at : ℕ} (c : Settled x₁ (from + length (encode q.first)) (place + 1 + records q.first) at a xs xs₂ w)
+  module _ {w : Walked} {xs₂ : List ℕ} {at : ℕ} (c : Settled x₁ (from + length (encode q.first)) (place + 1 + records q.first) at a xs xs₂ w)
       (low : top ≤ at) (high : at ≤ top + 7) where
     pub second_text : TermsAt s w.used l w.next (q.second ∷ [])
     second_text = rest_at q.first (q.second ∷ []) q.text c.used_is c.next_is
@@ -90,7 +90,7 @@ module _ {s xs : List ℕ} {from l last top a : ℕ} (place : ℕ) (q : ReadyTwo
         ∙ then_refused _ e
 
     -- the second operand's core, worked out above an index
-    module _ {w₂ : Went} {xs₃ : List ℕ} {to : ℕ}
+    module _ {w₂ : Walked} {xs₃ : List ℕ} {to : ℕ}
         (d : Came (x₂ q.env) (w.used + length (encode q.second)) (w.next + records q.second) to w.left l xs₂ xs₃ w₂) where
       abbrev used_all : w₂.used ≡ from + length (encode_all (q.first ∷ q.second ∷ []))
       used_all = omega (arith, c.used_is, d.used_is, pair_long q.first q.second)
@@ -100,7 +100,7 @@ module _ {s xs : List ℕ} {from l last top a : ℕ} (place : ℕ) (q : ReadyTwo
 
       -- the first is dropped
       pub dropped_done : {kind : ℕ} (k : Operator2 kind) → to ≡ top → drops k.o c.core ≡ true
-          → Told (Binary k.o q.first q.second) xs₃ (Done w₂)
+          → Told (Binary k.o q.first q.second) xs₃ (Ok w₂)
       dropped_done k e h =
           let j = join_dropped k.o c.core d.core h in
           record {
@@ -121,7 +121,7 @@ module _ {s xs : List ℕ} {from l last top a : ℕ} (place : ℕ) (q : ReadyTwo
       join_room e h = record { apart = omega (arith, e, h, d.above); room = lies_inside d.lies }
 
       -- both are kept, or the second is dropped
-      pub joined_done : {kind : ℕ} (xs₄ : List ℕ) (r : Walked) (k : Operator2 kind) → at ≡ top + 3 → to ≡ at + 3 * w.count → drops k.o c.core ≡ false
+      pub joined_done : {kind : ℕ} (xs₄ : List ℕ) (r : Result Walked Refused) (k : Operator2 kind) → at ≡ top + 3 → to ≡ at + 3 * w.count → drops k.o c.core ≡ false
           → ((o : Op2) (c d : Core) → op2_kind o ≡ kind → drops o c ≡ false → Lies xs₃ (top + 3) w.count c → Lies xs₃ w₂.at w₂.count d
           → WalkedAs (drawing (join_draw o c d) place (join o c d) (left w₂.left)) w₂.used w₂.next top (w.count + w₂.count + w₂.left) 0 xs₃ xs₄ r)
           → Told (Binary k.o q.first q.second) xs₄ r
@@ -136,7 +136,7 @@ module _ {s xs : List ℕ} {from l last top a : ℕ} (place : ℕ) (q : ReadyTwo
           (lies_kept d.kept (omega (arith, e, h)) (subst (λ n. Lies xs₂ n w.count c.core) e c.lies)) d.lies)
 
   -- Let: the definition's core lies at the top, and a frame behind it
-  module _ {w : Went} {xs₂ : List ℕ} (c : Settled x₁ (from + length (encode q.first)) (place + 1 + records q.first) top a xs xs₂ w) where
+  module _ {w : Walked} {xs₂ : List ℕ} (c : Settled x₁ (from + length (encode q.first)) (place + 1 + records q.first) top a xs xs₂ w) where
     pub bound₂ : Bound xs₂ last q.env
     bound₂ = bound_kept q.env c.kept q.stack.below q.stack.bound
 
@@ -166,7 +166,7 @@ module _ {s xs : List ℕ} {from l last top a : ℕ} (place : ℕ) (q : ReadyTwo
       let_is : desugar q.env (Let x q.first q.second) place (left a) ≡ x₃
       let_is = then_ok _ c.is ∙ ap (λ p. desugar (variable x c.core ∷ q.env) q.second p (left w.left)) (sym c.next_is)
 
-      pub let_done : (xs₄ : List ℕ) (r : Walked) → Visited s w.used l w.next inner (top + 3 * w.count + 5) w.left xs₃ xs₄ r
+      pub let_done : (xs₄ : List ℕ) (r : Result Walked Refused) → Visited s w.used l w.next inner (top + 3 * w.count + 5) w.left xs₃ xs₄ r
           → Told (Let x q.first q.second) xs₄ r
       let_done xs₄ r v =
           wider (desugar q.env (Let x q.first q.second) place (left a)) x₃ (from + length (encode_all (q.first ∷ q.second ∷ [])))

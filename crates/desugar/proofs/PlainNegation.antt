@@ -1,7 +1,7 @@
 -- Plain cores: they are tests, and their negation is record by record.
 use mathlib.Core.Path.{◌≡◌, refl, sym, ap, ◌∙◌}
 use mathlib.Core.Logic.{◌⊎◌, inl, inr}
-use mathlib.Core.Bool.{Bool, true, false, not, ◌&&◌, ◌||◌, and_assoc, false≢true}
+use mathlib.Core.Bool.{Bool, true, false, not, ◌&&◌, ◌||◌, and_assoc, and-true, false≢true}
 use mathlib.Core.List.{List, [], ◌∷◌, ◌++◌, append_assoc, append-nil}
 use Prim.Native.Nat.{ℕ, ◌+◌, ◌*◌, ◌≤◌, ◌<◌}
 use native.Mathlib.Omega.{arith}
@@ -11,21 +11,22 @@ use lib.ListN.{length, get_or, length-append}
 use lib.Seq.{sets}
 use Rattle.literals.proofs.Logic.{and_both, and_left, and_right}
 use Rattle.expr.specs.Terms.{Op1, Op2, Core, leaf, one, two, Zero, One, Top, Dup, End, Assign, Test, Union, Intersect, Xor, Difference, Sequence, LtlUntil, Complement, Star, LtlNext, atom_kind, op1_kind, op2_kind, test_kind, size}
-use Rattle.desugar.specs.declared.test_negation.Outcome.TheVariants.{Size, TooLarge}
+use Rattle.std.specs.Prelude.{Ok, Err}
+use Rattle.desugar.specs.declared.test_negation.NegationError.TheVariants.{TooLarge}
 use Rattle.desugar.specs.Negation.{is_test, negate}
 use Rattle.desugar.specs.Memory.{words, Holds, Kept, Lies, CopyRoom, words_all, size_all}
 use Rattle.desugar.specs.NegationOutcome.{Negates}
-use Rattle.desugar.specs.NegationRun.{core_kind, core_field, core_value, operands, own_words}
+use Rattle.desugar.specs.NegationRun.{all_kinds, core_kind, core_field, core_value, operands, own_words}
 use Rattle.desugar.specs.PlainNegation.{plain_kind, is_plain}
 use Rattle.desugar.proofs.Regions.{moved, none, joined, under, over, stored, kept_sets, length_words, size_pos}
-use Rattle.desugar.proofs.Forest.{Spot, spot, words_all_long, size_open}
+use Rattle.desugar.proofs.Forest.{Spot, spot, kinds_of, words_all_long, size_open}
 use Rattle.desugar.proofs.Turns.{value_small}
 use Rattle.desugar.proofs.PassEnds.{too_large}
 use Rattle.desugar.proofs.Outcomes.{large}
 
 -- ## Forests of plain cores
 
-abbrev pub all_plain : List Core → Bool
+abbrev all_plain : List Core → Bool
 all_plain [] = true
 all_plain (c ∷ cs) = is_plain c && all_plain cs
 
@@ -34,10 +35,13 @@ plain_op1 Complement = refl
 plain_op1 Star = refl
 plain_op1 LtlNext = refl
 
-pub plain_open : (c : Core) (cs : List Core) → all_plain (c ∷ cs) ≡ (plain_kind (core_kind c) && all_plain (operands c ++ cs))
+plain_open : (c : Core) (cs : List Core) → all_plain (c ∷ cs) ≡ (plain_kind (core_kind c) && all_plain (operands c ++ cs))
 plain_open (leaf p) cs = refl
 plain_open (one o a) cs = rw plain_op1
 plain_open (two o a b) cs = rw (and_assoc (plain_kind (op2_kind o)) (is_plain a && is_plain b) (all_plain cs), and_assoc (is_plain a) (is_plain b) (all_plain cs))
+
+pub plain_kinds : {xs : List ℕ} {i n : ℕ} (c : Core) → Lies xs i n c → all_kinds plain_kind xs i n ≡ is_plain c
+plain_kinds c h = kinds_of plain_kind all_plain refl plain_open c h ∙ and-true (is_plain c)
 
 -- ## The negation of a plain core
 
@@ -170,10 +174,10 @@ ended {xs} {t} {at} {n} {to} {j} l r = record { holds = moved r.written refl all
 
 -- ## The two endings
 
-pub plain_large : {xs : List ℕ} {c : Core} {at to n limit : ℕ} → Lies xs at n c → is_plain c ≡ true → limit < n → Negates xs c to limit TooLarge
+pub plain_large : {xs : List ℕ} {c : Core} {at to n limit : ℕ} → Lies xs at n c → is_plain c ≡ true → limit < n → Negates xs c to limit (Err TooLarge)
 plain_large {xs} {c} {at} {to} {n} {limit} h e l = large {out = to} (plain_test c e) (too_large (omega (arith, h.count, plain_size c e))) refl
 
-pub plain_fits : {xs : List ℕ} {c : Core} {to n limit : ℕ} → is_plain c ≡ true → n ≤ limit → Lies xs to n (negate c) → Negates xs c to limit (Size n)
+pub plain_fits : {xs : List ℕ} {c : Core} {to n limit : ℕ} → is_plain c ≡ true → n ≤ limit → Lies xs to n (negate c) → Negates xs c to limit (Ok n)
 plain_fits {xs} {c} {to} {n} {limit} e l h = record {
   is = rw (plain_test c e, le-leb (size (negate c)) limit (omega (arith, h.count)), ← h.count);
   holds = λ t m. h.holds;

@@ -6,6 +6,8 @@ use Prim.Native.Nat.{ℕ, ◌+◌, ◌-◌, ◌^◌, ◌≤◌, ◌<◌}
 use native.Mathlib.Omega.{arith}
 use lib.ListN.{length}
 use lib.Seq.{sets}
+use Rattle.desugar.specs.declared.ranged.Use as read
+use Rattle.desugar.specs.declared.Fields.{Fields}
 use Rattle.literals.specs.Patterns.{Pattern}
 use Rattle.expr.specs.Answers.{ok}
 use Rattle.expr.specs.Terms.{Assign, Core, Intersect, Matches, One, Sequence, Test, Use, Where, size}
@@ -18,7 +20,7 @@ use Rattle.desugar.specs.Costs.{between_size, chain_size, clear}
 use Rattle.desugar.specs.LeafWords.{stretch}
 use Rattle.desugar.specs.Memory.{words}
 use Rattle.desugar.specs.WalkWords.{use_of, where_of}
-use Rattle.desugar.specs.RangedWords.{RangeKept, UseKept, record_with}
+use Rattle.desugar.specs.RangedWords.{RangeKept, UseKept, record_in}
 use Rattle.desugar.proofs.RuleLaws.{range_kept, literal_kept, exact_kept, cidr_kept, wildcard_kept, values_kept}
 use Rattle.desugar.proofs.LeafKinds.{kinds_in, of, cidr_is, wildcard_is, values_is, exact_is, literal_use, assigns_is, tests_is}
 use Rattle.desugar.proofs.UseCores.{Leaf, assigns_leaf, tests_leaf, exact_leaf, cidr_leaf, wildcard_leaf, range_leaf}
@@ -98,13 +100,13 @@ module _ (h : Record) (w : Where) (n : ℕ) (rule : use_rule w (use_of h) n 0 �
 
 -- ## A use that keeps the rules
 
--- no rule on the range from s up to e, of n fields, is broken
-pub use_kept : (a b : List ℕ) (h : Head) (s e n : ℕ) → RangeKept a b h s e → n ≡ e - s → e < 2 ^ 32 → UseKept a b h n
-use_kept a b h s e n k f small =
-    let w = where_of (record_with a b h) in
-    let u = use_of (record_with a b h) in
+-- no rule on fields, n of them, is broken
+pub use_kept : (u : read.Use) (f : Fields) (n : ℕ) → RangeKept u f → n ≡ f.end - f.start → f.end < 2 ^ 32 → UseKept u n
+use_kept u f n k e small =
+    let w = where_of (record_in u) in
+    let v = use_of (record_in u) in
     record {
-      literals = k.literals;
-      rule = subst (λ (m : ℕ). use_rule w u m 0 ≡ ok tt) (sym f) (range_kept w u s e k.rule).1;
+      whole = k.whole;
+      rule = subst (λ (m : ℕ). use_rule w v m 0 ≡ ok tt) (sym e) (range_kept w v f.start f.end k.rule).1;
       few = omega arith;
     }

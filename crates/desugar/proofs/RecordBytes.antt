@@ -2,16 +2,17 @@
 use mathlib.Core.Path.{◌≡◌, refl, sym, ap, subst, ◌∙◌}
 use mathlib.Core.Bool.{Bool, true, false, not, cond}
 use mathlib.Core.List.{List, [], ◌∷◌, ◌++◌, append_assoc, append-nil}
-use Prim.Native.Nat.{ℕ, zero, suc, ◌+◌, ◌-◌, ◌*◌, ◌%◌, ◌≤◌, ◌<◌}
+use Prim.Native.Nat.{ℕ, zero, suc, ◌+◌, ◌-◌, ◌*◌, ◌/◌, ◌%◌, ◌≤◌, ◌<◌}
 use native.Mathlib.Nat.{add-zero, add-suc, zero-add}
-use native.Mathlib.Decide.{dec_lt, ℕ_discrete}
+use native.Mathlib.Decide.{dec_lt}
 use native.Mathlib.Omega.{arith}
 use native.Mathlib.Numerals.{add-one, add-two, add-three}
 use lib.ListN.{length, get_or, drop, set, length-append}
-use lib.Seq.{sets, sets-eq, set-get_or, length-sets}
+use lib.Seq.{sets, sets-eq, length-sets}
 use borrow.Author.Tests.{eq-eqb, ne_eqb}
 use Rattle.literals.specs.Bits.{bit, bytes_of, value_of}
 use Rattle.literals.proofs.Bits.{bit_small}
+use Rattle.literals.proofs.Bytes.{length_bytes_of}
 use Rattle.expr.specs.Terms.{Atom, Zero, One, Top, Dup, End, Assign, Test, Core, leaf, one, two, op1_kind, op2_kind, atom_kind, size}
 use Rattle.expr.specs.Records.{map_of, stands, write_number, write_record}
 use Rattle.expr.specs.Form.{atom_record, encode_core}
@@ -180,24 +181,23 @@ number_none n v e = ap (λ b. cond (not b) (bytes_of n v) []) (eq-eqb v 0 e)
 pub number_some : (n v : ℕ) → (v ≡ 0 → ⊥) → write_number n v ≡ bytes_of n v
 number_some n v e = ap (λ b. cond (not b) (bytes_of n v) []) (ne_eqb v 0 e)
 
--- a byte that is written where its number stands, and else written back
-pub value_put : (l : List ℕ) (to v : ℕ) {b : ℕ} → b ≡ cond (stands v) (v % 256) (get_or l to 0) → Put (write_number 1 v) l to (set l to b) (to + bit (stands v))
-value_put l to v {b} e = pick (ℕ_discrete v 0)
-  where
-    pick : Dec (v ≡ 0) → Put (write_number 1 v) l to (set l to b) (to + bit (stands v))
-    pick (yes d) =
-        let no : stands v ≡ false = ap not (eq-eqb v 0 d) in
-        record {
-          written = ap (set l to) (e ∙ ap (λ s. cond s (v % 256) (get_or l to 0)) no) ∙ set-get_or l to 0 ∙ ap (sets l to) (sym (number_none 1 v d));
-          next = omega (arith, ap bit no, ap length (number_none 1 v d));
-        }
-    pick (no d) =
-        let some : stands v ≡ true = ap not (ne_eqb v 0 d) in
-        record {
-          written = ap (set l to) (e ∙ ap (λ s. cond s (v % 256) (get_or l to 0)) some) ∙ ap (sets l to) (sym (number_some 1 v d));
-          next = omega (arith, ap bit some, ap length (number_some 1 v d));
-        }
+pub number_length : (n v : ℕ) → (v ≡ 0 → ⊥) → length (write_number n v) ≡ n
+number_length n v e = ap length (number_some n v e) ∙ length_bytes_of n v
 
+-- the bytes that are left of a number of n, i of which are written: one less, and none
+pub number_step : (n i v : ℕ) (l : List ℕ) (to : ℕ) {ys : List ℕ} → i < n → sets l (to + i) (bytes_of (n - i) v) ≡ ys
+    → sets (set l (to + i) (v % 256)) (to + (i + 1)) (bytes_of (n - (i + 1)) (v / 256)) ≡ ys
+number_step n i v l to {ys} h e =
+    let more : n - i ≡ suc (n - (i + 1)) = omega arith in
+    let next : to + (i + 1) ≡ suc (to + i) = omega arith in
+    rw next (ap (λ k. sets l (to + i) (bytes_of k v)) (sym more) ∙ e)
+
+pub number_end : (n i v : ℕ) (l : List ℕ) (to : ℕ) {ys : List ℕ} → n ≤ i → sets l (to + i) (bytes_of (n - i) v) ≡ ys → l ≡ ys
+number_end n i v l to {ys} h e =
+    let none : n - i ≡ 0 = omega arith in
+    ap (λ k. sets l (to + i) (bytes_of k v)) (sym none) ∙ e
+
+-- a byte that is written where its number stands, and else written back
 -- a record that has a kind
 module _ (k f v : ℕ) (h : 0 < k) where
   kind_some : write_number 1 k ≡ (k % 256) ∷ []
@@ -205,9 +205,6 @@ module _ (k f v : ℕ) (h : 0 < k) where
 
   pub kind_is : write_record (core_record k f v) ≡ (map_of (core_record k f v) ∷ (k % 256) ∷ []) ++ write_number 4 f ++ write_number 1 v
   kind_is = record_is k f v ∙ (λ i. (map_of (core_record k f v) ∷ kind_some i) ++ write_number 4 f ++ write_number 1 v)
-
-  pub kind_length : length (write_record (core_record k f v)) ≡ 2 + length (write_number 4 f) + length (write_number 1 v)
-  kind_length = omega (arith, parts_length k f v, ap length kind_some)
 
   -- and no more
   pub kind_only : f ≡ 0 → v ≡ 0 → write_record (core_record k f v) ≡ 1 ∷ (k % 256) ∷ []
@@ -238,9 +235,6 @@ pub put_as : {us vs l l' : List ℕ} {i r : ℕ} → us ≡ vs → Put us l i l'
 put_as {us} {vs} {l} {l'} {i} {r} e p = subst (λ (bs : List ℕ). Put bs l i l' r) e p
 
 -- the same index behind them
-pub put_next : {us l l' : List ℕ} {i r s : ℕ} → r ≡ s → Put us l i l' r → Put us l i l' s
-put_next {us} {l} {l'} {i} {r} {s} e p = record { written = p.written; next = sym e ∙ p.next }
-
 -- bytes behind bytes
 pub put_then : {us vs l l' l'' : List ℕ} {i j r : ℕ} → Put us l i l' j → Put vs l' j l'' r → Put (us ++ vs) l i l'' r
 put_then {us} {vs} {l} {l'} {l''} {i} {j} {r} p q = record {

@@ -10,8 +10,8 @@ use Rattle.literals.proofs.Logic.{and_left, and_right}
 use Rattle.literals.specs.Bits.{Bits, value_of}
 use Rattle.literals.specs.Patterns.{Cidr, Exact, IpRange, Wildcard}
 use Rattle.literals.specs.Comparing.{order_of}
-use Rattle.literals.specs.declared.Order.{Order}
-use Rattle.literals.specs.declared.Order.TheVariants.{Above, Below, Equal}
+use Rattle.std.specs.declared.cmp.Ordering.{Ordering}
+use Rattle.std.specs.declared.cmp.Ordering.TheVariants.{Less, Equal, Greater}
 use Rattle.expr.specs.Answers.{Answer, and_then, need, ok, refuse}
 use Rattle.expr.specs.Terms.{Alias, Direct, Use, Where}
 use Rattle.desugar.specs.Rules.{literal_rule, pattern_rule, range_rule, use_rule}
@@ -57,15 +57,15 @@ module _ (a m : Bits) (n at : ℕ) where
   pub wildcard_holds : length a ≡ n → length m ≡ n → ok tt ≡ pattern_rule (Wildcard a m) n at
   wildcard_holds h k = rw (eq-eqb (length a) n h, eq-eqb (length m) n k) refl
 
-abbrev pub not_above_fact : Order → Bool
-not_above_fact Below = true
+abbrev pub not_above_fact : Ordering → Bool
+not_above_fact Less = true
 not_above_fact Equal = true
-not_above_fact Above = false
+not_above_fact Greater = false
 
 pub order_leb : (x y : ℕ) → not_above_fact (order_of x y) ≡ leb x y
 order_leb x y = go (ltb x y) refl (eqb x y) refl
   where
-    go : (p : Bool) → ltb x y ≡ p → (q : Bool) → eqb x y ≡ q → not_above_fact (cond p Below (cond q Equal Above)) ≡ leb x y
+    go : (p : Bool) → ltb x y ≡ p → (q : Bool) → eqb x y ≡ q → not_above_fact (cond p Less (cond q Equal Greater)) ≡ leb x y
     go true e q f = sym (le-leb x y (omega (arith, ltb-true x y e)))
     go false e true f = sym (le-leb x y (omega (arith, eqb-true x y f)))
     go false e false f = sym (lt-leb x y (omega (arith, ltb-false x y e, eqb-false x y f)))
@@ -80,10 +80,10 @@ module _ (a b : Bits) (n at : ℕ) where
   pub values_high : n ≤ 128 → length a ≤ n → n < length b → refuse 20 at ≡ pattern_rule (IpRange a b) n at
   values_high h k l = rw (le-leb n 128 h, le-leb (length a) n k, lt-leb (length b) n l) refl
 
-  pub values_judged : n ≤ 128 → length a ≤ n → length b ≤ n → (o : Order) → o ≡ order_of (value_of a) (value_of b)
+  pub values_judged : n ≤ 128 → length a ≤ n → length b ≤ n → (o : Ordering) → o ≡ order_of (value_of a) (value_of b)
       → need (not_above_fact o) 21 at ≡ pattern_rule (IpRange a b) n at
   values_judged h k l o e =
-      ap (λ (z : Order). need (not_above_fact z) 21 at) e
+      ap (λ (z : Ordering). need (not_above_fact z) 21 at) e
       ∙ ap (λ z. need z 21 at) (order_leb (value_of a) (value_of b))
       ∙ rw (le-leb n 128 h, le-leb (length a) n k, le-leb (length b) n l) refl
 

@@ -5,15 +5,15 @@ use mathlib.Core.List.{List, [], ◌∷◌, ◌++◌}
 use Prim.Native.Nat.{ℕ, zero, suc, ◌+◌, ◌-◌, ◌*◌, ◌/◌, ◌%◌, ◌^◌, ◌≤◌, ◌<◌}
 use native.Mathlib.Nat.{mul-le-mul_right, mul-suc, suc-mul, pow-succ'}
 use native.Mathlib.Numerals.{add-one}
-use native.Mathlib.Decide.{dec_lt}
+use native.Mathlib.Decide.{dec_lt, ℕ_discrete}
 use native.Mathlib.Omega.{arith}
 use borrow.Author.Tests.{eq-eqb, ne_eqb}
 use lib.Dec.{eqb}
 use lib.ListN.{length, take, get_or, length-append, get_or-append, get_or-eq_default}
-use lib.Seq.{ext_get_or, get_or-append-add, get_or-take}
+use lib.Seq.{ext_get_or, get_or-append-add, get_or-take, take-suc}
 use Rattle.literals.specs.Bits.{Bits, bit, bit_at, bits_of, unpack, value_of}
-use Rattle.literals.proofs.Bits.{bit_at_bits, bit_of_bytes}
-use Rattle.desugar.specs.Costs.{differences_size}
+use Rattle.literals.proofs.Bits.{bit_at_bits, bit_of_bytes, length_bits}
+use Rattle.desugar.specs.Costs.{between_case_size, differences_size}
 use Rattle.desugar.specs.LeafWords.{Stands, ones, stretch}
 use Rattle.desugar.specs.declared.standing.Standing.{Standing}
 use Rattle.desugar.proofs.Chains.{length_stretch}
@@ -73,15 +73,6 @@ product_small m n h k = let p : m * n ≤ 128 * n = mul-le-mul_right n h in omeg
 pub stands_few : (a : Bits) (s : Standing) (n : ℕ) → Stands a s → length a ≡ n → n ≤ 128 → (s.count ≤ 128) × (s.size ≤ 32768)
 stands_few a s n h l k = (omega (arith, h.count, ones_most a), omega (arith, h.size, differences_most true a (omega arith)))
 
--- eight bits, the lowest first: bit i counts for 16 - 2i, which is 2 for each of the counts from i on
-pub byte_stands : (b0 b1 b2 b3 b4 b5 b6 b7 : Bool) (m0 m1 m2 m3 m4 m5 m6 m7 : ℕ) → bit b0 ≡ m0 → bit b1 ≡ m1 → bit b2 ≡ m2 → bit b3 ≡ m3 → bit b4 ≡ m4 → bit b5 ≡ m5 → bit b6 ≡ m6 → bit b7 ≡ m7
-    → (m0 + m1 + m2 + m3 + m4 + m5 + m6 + m7 ≡ ones (b0 ∷ b1 ∷ b2 ∷ b3 ∷ b4 ∷ b5 ∷ b6 ∷ b7 ∷ []))
-    × (2 * (m0 + (m0 + m1) + (m0 + m1 + m2) + (m0 + m1 + m2 + m3) + (m0 + m1 + m2 + m3 + m4) + (m0 + m1 + m2 + m3 + m4 + m5) + (m0 + m1 + m2 + m3 + m4 + m5 + m6) + (m0 + m1 + m2 + m3 + m4 + m5 + m6 + m7)) ≡ differences_size true (b0 ∷ b1 ∷ b2 ∷ b3 ∷ b4 ∷ b5 ∷ b6 ∷ b7 ∷ []))
-byte_stands b0 b1 b2 b3 b4 b5 b6 b7 m0 m1 m2 m3 m4 m5 m6 m7 e0 e1 e2 e3 e4 e5 e6 e7 = (
-  omega (arith, e0, e1, e2, e3, e4, e5, e6, e7),
-  omega (arith, e0, e1, e2, e3, e4, e5, e6, e7, weight b0 16, weight b1 14, weight b2 12, weight b3 10, weight b4 8, weight b5 6, weight b6 4, weight b7 2),
-)
-
 -- ## More bits above
 
 pub ones_append : (a b : Bits) → ones (a ++ b) ≡ ones a + ones b
@@ -103,6 +94,26 @@ differences_append (false ∷ a) b =
   where
     none_more : 0 + ones a ≡ ones a
     none_more = omega arith
+
+-- one bit more above
+pub stands_bit : (a : Bits) (b : Bool) {s t : Standing} → Stands a s → t.count ≡ s.count + bit b → t.size ≡ s.size + 2 * (s.count + bit b) → Stands (a ++ b ∷ []) t
+stands_bit a b h count size = record {
+  count = omega (arith, h.count, count, ones_append a (b ∷ []));
+  size = omega (arith, h.count, h.size, size, differences_append a (b ∷ []), weight b 2);
+}
+
+-- the bits of a byte, one more
+pub byte_bit : (v i : ℕ) → i < 8 → take (i + 1) (bits_of 8 v) ≡ take i (bits_of 8 v) ++ bit_at i v ∷ []
+byte_bit v i h =
+    rw (add-one i) (take-suc (bits_of 8 v) i false (omega (arith, length_bits 8 v)))
+    ∙ ap (λ b. take i (bits_of 8 v) ++ b ∷ []) (bit_at_bits 8 v i h)
+
+-- the lowest n bits of a bound of at most 128, which count for more by the bits above them
+pub padded_few : (a : Bits) (n w : ℕ) {s : Standing} → Stands (stretch a 0 n) s → n ≤ w → w ≤ 128
+    → (s.size ≤ 32768) × ((w - n) * s.count ≤ 16384)
+padded_few a n w {s} h k l =
+    let few = stands_few (stretch a 0 n) s n h (length_stretch a 0 n) (omega arith) in
+    (few.1, product_small (w - n) s.count (omega arith) few.0)
 
 stretch_get : (a : Bits) (i n j : ℕ) → j < n → get_or (stretch a i n) j false ≡ get_or a (i + j) false
 stretch_get a i zero j h = absurd (omega arith)
@@ -194,15 +205,25 @@ only_ones [] h = refl
 only_ones (true ∷ a) h = let k = rw (pow-succ' 2 (length a)) at h in omega (arith, only_ones a (omega arith))
 only_ones (false ∷ a) h = let k = rw (pow-succ' 2 (length a)) at h in absurd (omega arith)
 
-module _ (a : Bits) where
-  pub zero_is : ones a ≡ 0 → true ≡ eqb (value_of a) 0
-  zero_is h = sym (eq-eqb (value_of a) 0 (no_one a h))
+-- the count is 0, or that of all bits, where the value is 0, or the highest
+zero_count : (a : Bits) → eqb (ones a) 0 ≡ eqb (value_of a) 0
+zero_count a = go (ℕ_discrete (ones a) 0)
+  where
+    go : Dec (ones a ≡ 0) → eqb (ones a) 0 ≡ eqb (value_of a) 0
+    go (yes h) = eq-eqb (ones a) 0 h ∙ sym (eq-eqb (value_of a) 0 (no_one a h))
+    go (no h) = ne_eqb (ones a) 0 h ∙ sym (ne_eqb (value_of a) 0 (λ e. h (zero_no_one a e)))
 
-  pub zero_not : (ones a ≡ 0 → ⊥) → false ≡ eqb (value_of a) 0
-  zero_not h = sym (ne_eqb (value_of a) 0 (λ e. h (zero_no_one a e)))
+full_count : (a : Bits) → eqb (ones a) (length a) ≡ eqb (value_of a + 1) (2 ^ length a)
+full_count a = go (ℕ_discrete (ones a) (length a))
+  where
+    go : Dec (ones a ≡ length a) → eqb (ones a) (length a) ≡ eqb (value_of a + 1) (2 ^ length a)
+    go (yes h) = eq-eqb (ones a) (length a) h ∙ sym (eq-eqb (value_of a + 1) (2 ^ length a) (all_ones a h))
+    go (no h) = ne_eqb (ones a) (length a) h ∙ sym (ne_eqb (value_of a + 1) (2 ^ length a) (λ e. h (only_ones a e)))
 
-  pub highest_is : ones a ≡ length a → true ≡ eqb (value_of a + 1) (2 ^ length a)
-  highest_is h = sym (eq-eqb (value_of a + 1) (2 ^ length a) (all_ones a h))
-
-  pub highest_not : (ones a ≡ length a → ⊥) → false ≡ eqb (value_of a + 1) (2 ^ length a)
-  highest_not h = sym (ne_eqb (value_of a + 1) (2 ^ length a) (λ e. h (only_ones a e)))
+-- the size of a range of values whose bounds differ, by their counts
+pub size_by_counts : (a b : Bits) {s t : Standing} (w : ℕ) → Stands a s → length b ≡ w → Stands b t → {x y : Bool} → eqb s.count 0 ≡ x → eqb t.count w ≡ y
+    → between_case_size false x y a b ≡ between_case_size false (eqb (value_of a) 0) (eqb (value_of b + 1) (2 ^ length b)) a b
+size_by_counts a b {s} {t} w h m k {x} {y} e f =
+    let zero : x ≡ eqb (value_of a) 0 = sym e ∙ ap (λ n. eqb n 0) h.count ∙ zero_count a in
+    let full : y ≡ eqb (value_of b + 1) (2 ^ length b) = sym f ∙ (λ i. eqb (k.count i) (sym m i)) ∙ full_count b in
+    λ i. between_case_size false (zero i) (full i) a b

@@ -12,8 +12,11 @@ use Rattle.literals.proofs.Bits.{bit_small}
 use Rattle.expr.specs.Terms.{Atom, Core, leaf, one, two, Zero, One, Top, Dup, End, Assign, Test, Union, Intersect, Xor, Difference, Sequence, LtlUntil, Complement, Star, LtlNext, atom_kind, size}
 use Rattle.desugar.specs.Negation.{is_test, negate}
 use Rattle.desugar.specs.Memory.{atom_value, words, Holds, Kept, words_all, size_all}
-use Rattle.desugar.specs.NegationOutcome.{Layout}
-use Rattle.desugar.specs.NegationRun.{core_kind, core_field, core_value, operands, all_test, one_again, notes_all, TwoNotes, Mode, negating, keeping, redoing, skipping, code, drop_at, count_of, own_words, left_code, right_code, Task, task, emit_all, cores_of, codes_of, Run}
+use Rattle.desugar.specs.declared.test_negation.places.Places.{Places}
+use Rattle.desugar.specs.declared.test_negation.negated.Next.{Next}
+use Rattle.desugar.specs.declared.test_negation.modes.Mode.{Mode}
+use Rattle.desugar.specs.declared.test_negation.modes.Mode.TheVariants.{Negate, Keep, Again, Skip}
+use Rattle.desugar.specs.NegationRun.{core_kind, core_field, core_value, operands, all_test, one_again, notes_all, TwoNotes, code, drop_at, own_words, left_code, right_code, Task, task, emit_all, cores_of, codes_of, Run}
 use Rattle.desugar.proofs.Regions.{moved, head, tail, joined, under, over, stored, kept_holds, kept_sets, kept_then, length_words, size_pos}
 use Rattle.desugar.proofs.Forest.{Spot, spot, tests_open, words_all_long, notes_all_long, size_open, all_long, notes_open, leaf_kind, op_kind}
 use Rattle.desugar.proofs.Notes.{Pair, pair, odd_is, two_notes}
@@ -32,16 +35,6 @@ own_cases false false b₃ false mode kind f v = refl
 pub own_long : (m : Mode) (c : Core) → length (own m c) ≡ 3 * count_in m c
 own_long m c = own_cases (eqb (code m) 3) (eqb (code m) 0) (eqb (core_kind c) 9) (eqb (dropped m c) 0) (code m) (core_kind c) (core_field c) (core_value c)
 
-count_cases : (b₁ b₂ b₃ b₄ : Bool) → cond b₁ 0 (cond b₂ (cond b₃ 3 1) (cond b₄ 1 0)) ≤ 3
-count_cases true b₂ b₃ b₄ = omega arith
-count_cases false true true b₄ = omega arith
-count_cases false true false b₄ = omega arith
-count_cases false false b₃ true = omega arith
-count_cases false false b₃ false = omega arith
-
-pub count_small : (mode kind drop : ℕ) → count_of mode kind drop ≤ 3
-count_small mode kind drop = count_cases (eqb mode 3) (eqb mode 0) (eqb kind 9) (eqb drop 0)
-
 leaf_value : (p : Atom) → atom_value p ≤ 1
 leaf_value Zero = omega arith
 leaf_value One = omega arith
@@ -58,40 +51,40 @@ value_small (two o a b) = omega arith
 
 -- ## The run at its next record
 
-pub record Now (xs : List ℕ) (t : Core) (at n notes modes out j top made : ℕ) : Type 0 where
+pub record Now (xs : List ℕ) (t : Core) (p : Places) (j : ℕ) (s : Next) : Type 0 where
   pub mode : Mode
   pub core : Core
   pub rest : List Task
   pub test : all_test (core ∷ cores_of rest) ≡ true
-  pub records : Holds xs (at + 3 * j) (words_all (core ∷ cores_of rest))
-  pub noted : Holds xs (notes + j) (notes_all (core ∷ cores_of rest))
-  pub stack : Holds xs top (code mode ∷ codes_of rest)
-  pub depth : top + suc (length rest) ≡ modes + n
-  pub left : j + (size core + size_all (cores_of rest)) ≡ n
+  pub records : Holds xs (p.at + 3 * j) (words_all (core ∷ cores_of rest))
+  pub noted : Holds xs (p.notes + j) (notes_all (core ∷ cores_of rest))
+  pub stack : Holds xs s.top (code mode ∷ codes_of rest)
+  pub depth : s.top + suc (length rest) ≡ p.modes + p.n
+  pub left : j + (size core + size_all (cores_of rest)) ≡ p.n
   pub done : List ℕ
-  pub written : Holds xs out done
-  pub long : length done ≡ 3 * made
+  pub written : Holds xs p.out done
+  pub long : length done ≡ 3 * s.made
   pub goal : done ++ emit_all (task mode core ∷ rest) ≡ words (negate t)
 
-module _ {xs : List ℕ} {t : Core} {at n notes modes out j top made : ℕ} (l : j < n) where
+module _ {xs : List ℕ} {t : Core} {p : Places} {j : ℕ} {s : Next} (l : j < p.n) where
   now_of : (plan : List Task) → all_test (cores_of plan) ≡ true
-      → Holds xs (at + 3 * j) (words_all (cores_of plan)) → Holds xs (notes + j) (notes_all (cores_of plan)) → Holds xs top (codes_of plan)
-      → top + length plan ≡ modes + n → j + size_all (cores_of plan) ≡ n
-      → (done : List ℕ) → Holds xs out done → length done ≡ 3 * made → done ++ emit_all plan ≡ words (negate t)
-      → Now xs t at n notes modes out j top made
+      → Holds xs (p.at + 3 * j) (words_all (cores_of plan)) → Holds xs (p.notes + j) (notes_all (cores_of plan)) → Holds xs s.top (codes_of plan)
+      → s.top + length plan ≡ p.modes + p.n → j + size_all (cores_of plan) ≡ p.n
+      → (done : List ℕ) → Holds xs p.out done → length done ≡ 3 * s.made → done ++ emit_all plan ≡ words (negate t)
+      → Now xs t p j s
   now_of [] a b c d e f g h i k = absurd (omega arith)
   now_of (task m r ∷ rest) a b c d e f g h i k = record { mode = m; core = r; rest = rest; test = a; records = b; noted = c; stack = d; depth = e; left = f; done = g; written = h; long = i; goal = k }
 
-  pub now : Run xs t at n notes modes out j top made → Now xs t at n notes modes out j top made
+  pub now : Run xs t p j s → Now xs t p j s
   now r = now_of r.plan r.test r.records r.noted r.stack r.depth r.left r.done r.written r.long r.goal
 
 -- ## Which operand is dropped
 
 drop_is : (xs : List ℕ) (i : ℕ) (m : Mode) (c : Core) (cs : List Core) → Holds xs (i + 1) (notes_all (operands c ++ cs)) → drop_at xs i (code m) (core_kind c) ≡ dropped m c
-drop_is xs i negating c cs h = refl
-drop_is xs i keeping c cs h = refl
-drop_is xs i skipping c cs h = refl
-drop_is xs i redoing (leaf p) cs h = leaf_none p
+drop_is xs i Negate c cs h = refl
+drop_is xs i Keep c cs h = refl
+drop_is xs i Skip c cs h = refl
+drop_is xs i Again (leaf p) cs h = leaf_none p
   where
     leaf_none : (p : Atom) → drop_at xs i 2 (atom_kind p) ≡ 0
     leaf_none Zero = refl
@@ -101,15 +94,15 @@ drop_is xs i redoing (leaf p) cs h = leaf_none p
     leaf_none End = refl
     leaf_none (Assign f v) = refl
     leaf_none (Test f v) = refl
-drop_is xs i redoing (one Complement a) cs h = refl
-drop_is xs i redoing (one Star a) cs h = refl
-drop_is xs i redoing (one LtlNext a) cs h = refl
-drop_is xs i redoing (two Union a b) cs h = refl
-drop_is xs i redoing (two Intersect a b) cs h = refl
-drop_is xs i redoing (two Xor a b) cs h = refl
-drop_is xs i redoing (two Difference a b) cs h = refl
-drop_is xs i redoing (two LtlUntil a b) cs h = refl
-drop_is xs i redoing (two Sequence a b) cs h =
+drop_is xs i Again (one Complement a) cs h = refl
+drop_is xs i Again (one Star a) cs h = refl
+drop_is xs i Again (one LtlNext a) cs h = refl
+drop_is xs i Again (two Union a b) cs h = refl
+drop_is xs i Again (two Intersect a b) cs h = refl
+drop_is xs i Again (two Xor a b) cs h = refl
+drop_is xs i Again (two Difference a b) cs h = refl
+drop_is xs i Again (two LtlUntil a b) cs h = refl
+drop_is xs i Again (two Sequence a b) cs h =
     let p : Pair xs i a b = pair a b cs h in
     rw (p.right, p.left, odd_is a, odd_is b)
 
@@ -146,27 +139,27 @@ operands_of m (two o a b) t l = record {
 
 -- ## What a turn finds, and where
 
-module _ {xs : List ℕ} {t : Core} {at n notes modes out limit j top made : ℕ} (lay : Layout (length xs) at n notes modes out limit) (l : j < n) (r : Now xs t at n notes modes out j top made) where
+module _ {xs : List ℕ} {t : Core} {p : Places} {j : ℕ} {s : Next} (room : p.out + 3 * p.limit ≤ length xs) (l : j < p.n) (r : Now xs t p j s) where
   first_test : is_test r.core ≡ true
   first_test = and_left (is_test r.core) (all_test (cores_of r.rest)) r.test
 
-  here : Spot xs (at + 3 * j) r.core (cores_of r.rest)
+  here : Spot xs (p.at + 3 * j) r.core (cores_of r.rest)
   here = spot r.core (cores_of r.rest) r.records
 
-  above : Holds xs (notes + j + 1) (notes_all (operands r.core ++ cores_of r.rest))
+  above : Holds xs (p.notes + j + 1) (notes_all (operands r.core ++ cores_of r.rest))
   above = tail (moved r.noted refl (notes_open r.core (cores_of r.rest)))
 
   -- the place of the turn: the record, the stack's top, the notes, and the room for what is written
   pub record Found : Type 0 where
-    pub kind : get_or xs (at + 3 * j) 0 ≡ core_kind r.core
-    pub field : get_or xs (at + 3 * j + 1) 0 ≡ core_field r.core
-    pub value : get_or xs (at + 3 * j + 2) 0 ≡ core_value r.core
-    pub value_small : get_or xs (at + 3 * j + 2) 0 ≤ 1
-    pub mode : get_or xs top 0 ≡ code r.mode
-    pub drop : drop_at xs (notes + j) (code r.mode) (core_kind r.core) ≡ dropped r.mode r.core
-    pub here_in : at + 3 * j + 3 ≤ length xs
-    pub top_in : top < length xs
-    pub sides : core_kind r.core ≡ 11 → TwoNotes xs (notes + j)
+    pub kind : get_or xs (p.at + 3 * j) 0 ≡ core_kind r.core
+    pub field : get_or xs (p.at + 3 * j + 1) 0 ≡ core_field r.core
+    pub value : get_or xs (p.at + 3 * j + 2) 0 ≡ core_value r.core
+    pub value_small : get_or xs (p.at + 3 * j + 2) 0 ≤ 1
+    pub mode : get_or xs s.top 0 ≡ code r.mode
+    pub drop : drop_at xs (p.notes + j) (code r.mode) (core_kind r.core) ≡ dropped r.mode r.core
+    pub here_in : p.at + 3 * j + 3 ≤ length xs
+    pub top_in : s.top < length xs
+    pub sides : core_kind r.core ≡ 11 → TwoNotes xs (p.notes + j)
 
   pub found : Found
   found = record {
@@ -175,30 +168,30 @@ module _ {xs : List ℕ} {t : Core} {at n notes modes out limit j top made : ℕ
     value = here.value;
     value_small = omega (arith, here.value, value_small r.core);
     mode = head r.stack;
-    drop = drop_is xs (notes + j) r.mode r.core (cores_of r.rest) above;
+    drop = drop_is xs (p.notes + j) r.mode r.core (cores_of r.rest) above;
     here_in = omega (arith, here.rest.fits);
     top_in = omega (arith, r.stack.fits);
-    sides = λ e. two_notes xs (notes + j) r.core (cores_of r.rest) first_test (omega (arith, r.left, lay.small)) (omega arith) above;
+    sides = λ e. two_notes xs (p.notes + j) r.core (cores_of r.rest) first_test (omega (arith, r.left, p.small)) (omega arith) above;
   }
 
   -- what is written so far, with this turn's records, is at most the whole
-  pub over_limit : made + count_in r.mode r.core ≤ size (negate t)
+  pub over_limit : s.made + count_in r.mode r.core ≤ size (negate t)
   over_limit =
       let whole : (r.done ++ own r.mode r.core) ++ emit_all (tasks_of r.mode r.core ++ r.rest) ≡ words (negate t) = goal_open r.mode r.core r.rest r.done (words (negate t)) first_test r.goal in
       omega (arith, ap length whole, length_words (negate t), own_long r.mode r.core, r.long, length-append r.done (own r.mode r.core), length-append (r.done ++ own r.mode r.core) (emit_all (tasks_of r.mode r.core ++ r.rest)))
 
   -- the run after the turn, in a memory that has kept what lies below the modes
-  after : (xs' : List ℕ) (top' : ℕ) → Kept modes xs xs'
-      → Holds xs' top' (codes_of (tasks_of r.mode r.core ++ r.rest)) → top' + length (tasks_of r.mode r.core ++ r.rest) ≡ modes + n
-      → Holds xs' out (r.done ++ own r.mode r.core) → Run xs' t at n notes modes out (j + 1) top' (made + count_in r.mode r.core)
+  after : (xs' : List ℕ) (top' : ℕ) → Kept p.modes xs xs'
+      → Holds xs' top' (codes_of (tasks_of r.mode r.core ++ r.rest)) → top' + length (tasks_of r.mode r.core ++ r.rest) ≡ p.modes + p.n
+      → Holds xs' p.out (r.done ++ own r.mode r.core) → Run xs' t p (j + 1) (record { top = top'; made = s.made + count_in r.mode r.core })
   after xs' top' kept stack depth written =
       let cores : cores_of (tasks_of r.mode r.core ++ r.rest) ≡ operands r.core ++ cores_of r.rest = cores_open r.mode r.core r.rest in
       let sizes : size r.core + size_all (cores_of r.rest) ≡ suc (size_all (operands r.core ++ cores_of r.rest)) = size_open r.core (cores_of r.rest) in
       record {
         plan = tasks_of r.mode r.core ++ r.rest;
         test = ap all_test cores ∙ tests_open r.core (cores_of r.rest) r.test;
-        records = moved (kept_holds kept (omega (arith, words_all_long (operands r.core ++ cores_of r.rest), r.left, lay.notes_at, lay.modes_at)) here.rest) (omega arith) (ap words_all (sym cores));
-        noted = moved (kept_holds kept (omega (arith, notes_all_long (operands r.core ++ cores_of r.rest), r.left, lay.modes_at)) above) (omega arith) (ap notes_all (sym cores));
+        records = moved (kept_holds kept (omega (arith, words_all_long (operands r.core ++ cores_of r.rest), r.left, p.notes_at, p.modes_at)) here.rest) (omega arith) (ap words_all (sym cores));
+        noted = moved (kept_holds kept (omega (arith, notes_all_long (operands r.core ++ cores_of r.rest), r.left, p.modes_at)) above) (omega arith) (ap notes_all (sym cores));
         stack = stack;
         depth = depth;
         left = omega (arith, ap size_all cores, r.left);
@@ -208,34 +201,34 @@ module _ {xs : List ℕ} {t : Core} {at n notes modes out limit j top made : ℕ
         goal = goal_open r.mode r.core r.rest r.done (words (negate t)) first_test r.goal;
       }
 
-  module _ (fits : made + count_in r.mode r.core ≤ limit) where
+  module _ (fits : s.made + count_in r.mode r.core ≤ p.limit) where
     -- the memory with this turn's records
     abbrev pub put : List ℕ
-    put = sets xs (out + 3 * made) (own r.mode r.core)
+    put = sets xs (p.out + 3 * s.made) (own r.mode r.core)
 
     put_long : length put ≡ length xs
-    put_long = length-sets xs (out + 3 * made) (own r.mode r.core)
+    put_long = length-sets xs (p.out + 3 * s.made) (own r.mode r.core)
 
-    put_kept : Kept modes xs put
-    put_kept = kept_sets modes xs (out + 3 * made) (own r.mode r.core) (omega (arith, lay.out_at))
+    put_kept : Kept p.modes xs put
+    put_kept = kept_sets p.modes xs (p.out + 3 * s.made) (own r.mode r.core) (omega (arith, p.out_at))
 
-    put_written : Holds put out (r.done ++ own r.mode r.core)
+    put_written : Holds put p.out (r.done ++ own r.mode r.core)
     put_written =
         joined r.done (own r.mode r.core)
-        (under (out + 3 * made) (own r.mode r.core) (omega (arith, r.long)) r.written)
-        (moved (stored xs (out + 3 * made) (own r.mode r.core) (omega (arith, own_long r.mode r.core, lay.room))) (omega (arith, r.long)) refl)
+        (under (p.out + 3 * s.made) (own r.mode r.core) (omega (arith, r.long)) r.written)
+        (moved (stored xs (p.out + 3 * s.made) (own r.mode r.core) (omega (arith, own_long r.mode r.core, room))) (omega (arith, r.long)) refl)
 
     codes_rest : length (codes_of r.rest) ≡ length r.rest
     codes_rest = codes_long r.rest
 
-    put_rest : Holds put (top + 1) (codes_of r.rest)
-    put_rest = under (out + 3 * made) (own r.mode r.core) (omega (arith, codes_rest, r.depth, lay.out_at)) (tail r.stack)
+    put_rest : Holds put (s.top + 1) (codes_of r.rest)
+    put_rest = under (p.out + 3 * s.made) (own r.mode r.core) (omega (arith, codes_rest, r.depth, p.out_at)) (tail r.stack)
 
     -- the run after a leaf
-    pub leaf_run : core_kind r.core < 7 → Run put t at n notes modes out (j + 1) (top + 1) (made + count_in r.mode r.core)
+    pub leaf_run : core_kind r.core < 7 → Run put t p (j + 1) (record { top = s.top + 1; made = s.made + count_in r.mode r.core })
     leaf_run k =
         let e : tasks_of r.mode r.core ≡ [] = leaf_tasks r.mode r.core first_test k in
-        after put (top + 1) put_kept
+        after put (s.top + 1) put_kept
         (moved put_rest refl (ap (λ (ts : List Task). codes_of (ts ++ r.rest)) (sym e)))
         (omega (arith, r.depth, ap (λ (ts : List Task). length (ts ++ r.rest)) e))
         put_written
@@ -249,24 +242,24 @@ module _ {xs : List ℕ} {t : Core} {at n notes modes out limit j top made : ℕ
       codes = left_code (code r.mode) (core_kind r.core) (dropped r.mode r.core) ∷ right_code (code r.mode) (core_kind r.core) (dropped r.mode r.core) ∷ []
 
       -- there is room on the stack
-      pub deep : modes < top
+      pub deep : p.modes < s.top
       deep = omega (arith, w.big, r.depth, r.left, all_long (cores_of r.rest), cores_long r.rest)
 
       abbrev pub pushed : List ℕ
-      pushed = sets put (top - 1) codes
+      pushed = sets put (s.top - 1) codes
 
-      pub pushed_kept : Kept modes xs pushed
-      pushed_kept = kept_then put_kept (kept_sets modes put (top - 1) codes (omega (arith, deep)))
+      pub pushed_kept : Kept p.modes xs pushed
+      pushed_kept = kept_then put_kept (kept_sets p.modes put (s.top - 1) codes (omega (arith, deep)))
 
-      pushed_stack : Holds pushed (top - 1) (codes ++ codes_of r.rest)
+      pushed_stack : Holds pushed (s.top - 1) (codes ++ codes_of r.rest)
       pushed_stack =
           joined codes (codes_of r.rest)
-          (stored put (top - 1) codes (omega (arith, put_long, deep, r.stack.fits)))
-          (moved (over (top - 1) codes (omega (arith, deep)) put_rest) (omega (arith, deep)) refl)
+          (stored put (s.top - 1) codes (omega (arith, put_long, deep, r.stack.fits)))
+          (moved (over (s.top - 1) codes (omega (arith, deep)) put_rest) (omega (arith, deep)) refl)
 
-      pub op_run : Run pushed t at n notes modes out (j + 1) (top - 1) (made + count_in r.mode r.core)
+      pub op_run : Run pushed t p (j + 1) (record { top = s.top - 1; made = s.made + count_in r.mode r.core })
       op_run =
-          after pushed (top - 1) pushed_kept
+          after pushed (s.top - 1) pushed_kept
           (moved pushed_stack refl (rw (w.tasks_are, w.left_is, w.right_is)))
           (omega (arith, deep, r.depth, ap (λ (ts : List Task). length (ts ++ r.rest)) w.tasks_are))
-          (over (top - 1) codes (omega (arith, deep, r.depth, lay.out_at)) put_written)
+          (over (s.top - 1) codes (omega (arith, deep, r.depth, p.out_at)) put_written)

@@ -5,24 +5,26 @@ use Prim.Native.Nat.{ℕ, ◌+◌, ◌*◌, ◌≤◌}
 use native.Mathlib.Omega.{arith}
 use lib.ListN.{length, drop, length-append, length-drop}
 use lib.Seq.{drop_at, drop-drop}
+use Rattle.std.specs.Result.{IsErrAnd}
+use Rattle.refusals.proofs.Exits.{err_is}
+use Rattle.refusals.specs.Refusals.{number_of}
+use Rattle.refusals.specs.declared.Refusal.{Refusal}
+use Rattle.std.specs.Prelude.{Result, Ok, Err}
+use Rattle.refusals.specs.declared.Refused.{Refused}
+use Rattle.desugar.specs.declared.went.Walked.{Walked}
 use Rattle.expr.specs.Answers.{Answer, ok, refuse, and_then}
 use Rattle.expr.specs.Terms.{Core, Expr, records}
 use Rattle.expr.specs.Form.{encode}
 use Rattle.expr.specs.Replaced.{encode_all}
 use Rattle.expr.specs.Results.{RecordFound}
 use Rattle.expr.specs.declared.records.Head.{Head}
-use Rattle.expr.specs.declared.records.HeadRead.{HeadRead}
-use Rattle.expr.specs.declared.records.HeadRead.TheVariants as head
-use Rattle.expr.proofs.HeadOf.{Headed, headed}
+use Rattle.expr.proofs.HeadOf.{Headed, headed, not_refused}
 use Rattle.expr.proofs.Slices.{part, part_is}
 use Rattle.desugar.specs.Bindings.{Env}
 use Rattle.desugar.specs.Meter.{Meter, left}
 use Rattle.desugar.specs.Desugar.{desugar}
 use Rattle.desugar.specs.Memory.{Kept, Lies}
 use Rattle.desugar.specs.WalkWords.{TermAt, TermsAt, Stack, Came, WalkedAs, Ready}
-use Rattle.desugar.specs.declared.went.Went.{Went}
-use Rattle.desugar.specs.declared.went.Walked.{Walked}
-use Rattle.desugar.specs.declared.went.Walked.TheVariants.{Done, Refused}
 use Rattle.desugar.proofs.Regions.{kept_then, kept_less}
 use Rattle.desugar.proofs.Frames.{bound_kept}
 pub use Rattle.desugar.proofs.RecordBytes.{lies_inside}
@@ -33,10 +35,14 @@ pub use Rattle.desugar.proofs.RecordBytes.{lies_inside}
 abbrev pub in_part : (s : List ℕ) (at : ℕ) {levels place : ℕ} {e : Expr} → TermAt (drop at s) levels place e → TermAt (part at s) levels place e
 in_part s at t = record { more = t.more; bytes = part_is at s ∙ t.bytes; fits = t.fits; deep = t.deep; low = t.low }
 
--- the record that was read there is the term's first
-pub text_head : (s : List ℕ) (at : ℕ) {levels place : ℕ} {e : Expr} (t : TermAt (drop at s) levels place e) {x : HeadRead} {h : Head}
-    → RecordFound (part at s) x → x ≡ head.Found h → Headed (part at s) e t.more h
-text_head s at {e = e} t f is = headed e t.more (in_part s at t).bytes t.fits f is
+-- the record that was read there is the term's first, and no refusal
+pub text_head : (s : List ℕ) (at : ℕ) {levels place : ℕ} {e : Expr} (t : TermAt (drop at s) levels place e) {h : Head}
+    → RecordFound (drop at s) (Ok h) → Headed (part at s) e t.more h
+text_head s at {e = e} t {h} f = headed e t.more (in_part s at t).bytes t.fits (subst (λ l. RecordFound l (Ok h)) (sym (part_is at s)) f)
+
+pub text_read : (s : List ℕ) (at : ℕ) {levels place : ℕ} {e : Expr} (t : TermAt (drop at s) levels place e) {r : Refusal}
+    → RecordFound (drop at s) (Err r) → ⊥
+text_read s at {e = e} t f = not_refused e t.more t.bytes t.fits f
 
 module _ {s : List ℕ} {from levels place : ℕ} (e : Expr) (es : List Expr) (t : TermsAt s from levels place (e ∷ es)) where
   behind : drop from s ≡ encode e ++ (encode_all es ++ t.more)
@@ -89,28 +95,29 @@ ready_first {env = env} e es t k = record { term = e; env = env; start = t.start
 -- ## What a walk came to
 
 -- the contract of a walk over one term
-abbrev pub Visited : List ℕ → (at levels place last top a : ℕ) → (xs xs' : List ℕ) → Walked → Type 0
+abbrev pub Visited : List ℕ → (at levels place last top a : ℕ) → (xs xs' : List ℕ) → Result Walked Refused → Type 0
 Visited s at levels place last top a xs xs' r =
     (q : Ready s at levels place last top a xs)
     → WalkedAs (desugar q.env q.term place (left a)) (at + length (encode q.term)) (place + records q.term) top a levels xs xs' r
 
-module _ {s xs : List ℕ} {at levels place last top a : ℕ} (xs' : List ℕ) (r : Walked) (q : Ready s at levels place last top a xs)
-    (v : Visited s at levels place last top a xs xs' r) where
-  abbrev pub Visit : Walked → Type 0
-  Visit = WalkedAs (desugar q.env q.term place (left a)) (at + length (encode q.term)) (place + records q.term) top a levels xs xs'
-
-  pub came : {w : Went} → r ≡ Done w
+module _ {s xs : List ℕ} {at levels place last top a : ℕ} (xs' : List ℕ) (q : Ready s at levels place last top a xs) where
+  pub came : {w : Walked} → Visited s at levels place last top a xs xs' (Ok w)
       → Came (desugar q.env q.term place (left a)) (at + length (encode q.term)) (place + records q.term) top a levels xs xs' w
-  came e = subst Visit e (v q)
+  came v = v q
 
-  pub stopped : {n p : ℕ} → r ≡ Refused n p → desugar q.env q.term place (left a) ≡ refuse n p
-  stopped e = subst Visit e (v q)
+  pub stopped : (r : Refused) → Visited s at levels place last top a xs xs' (Err r) → desugar q.env q.term place (left a) ≡ refuse (number_of r.refusal) r.place
+  stopped r v = v q
+
+-- a refusal that is passed on
+pub passed_on : {x : Answer (Core × Meter)} (used next top a levels : ℕ) (xs xs' : List ℕ) (r : Result Walked Refused) (e : Refused)
+    → IsErrAnd r (λ y. y ≡ e) → x ≡ refuse (number_of e.refusal) e.place → WalkedAs x used next top a levels xs xs' r
+passed_on {x} used next top a levels xs xs' r e is k = subst (WalkedAs x used next top a levels xs xs') (sym (err_is r is)) k
 
 -- the same answer, seen from a lower top with more room and more of an allowance
-pub wider : (x y : Answer (Core × Meter)) (u u₁ n n₁ top top₁ a a₁ l l₁ : ℕ) (xs xs₁ ys : List ℕ) (r : Walked)
+pub wider : (x y : Answer (Core × Meter)) (u u₁ n n₁ top top₁ a a₁ l l₁ : ℕ) (xs xs₁ ys : List ℕ) (r : Result Walked Refused)
     → x ≡ y → u₁ ≡ u → n₁ ≡ n → top ≤ top₁ → top₁ + 3 * a₁ + 12 * l₁ ≤ top + 3 * a + 12 * l → a₁ ≤ a → Kept top xs xs₁
     → WalkedAs y u₁ n₁ top₁ a₁ l₁ xs₁ ys r → WalkedAs x u n top a l xs ys r
-wider x y u u₁ n n₁ top top₁ a a₁ l l₁ xs xs₁ ys (Done w) e used next above reach drawn kept c =
+wider x y u u₁ n n₁ top top₁ a a₁ l l₁ xs xs₁ ys (Ok w) e used next above reach drawn kept c =
     record {
       core = c.core;
       is = e ∙ c.is;
@@ -122,10 +129,10 @@ wider x y u u₁ n n₁ top top₁ a a₁ l l₁ xs xs₁ ys (Done w) e used nex
       reach = omega (arith, c.reach, reach);
       drawn = omega (arith, c.drawn, drawn);
     }
-wider x y u u₁ n n₁ top top₁ a a₁ l l₁ xs xs₁ ys (Refused k p) e used next above reach drawn kept c = e ∙ c
+wider x y u u₁ n n₁ top top₁ a a₁ l l₁ xs xs₁ ys (Err k) e used next above reach drawn kept c = e ∙ c
 
 -- the first operand's answer x, and the core settled at an index
-pub record Settled (x : Answer (Core × Meter)) (used next at a : ℕ) (xs xs' : List ℕ) (w : Went) : Type 0 where
+pub record Settled (x : Answer (Core × Meter)) (used next at a : ℕ) (xs xs' : List ℕ) (w : Walked) : Type 0 where
   pub core : Core
   pub is : x ≡ ok (core, left w.left)
   pub used_is : w.used ≡ used
@@ -134,7 +141,7 @@ pub record Settled (x : Answer (Core × Meter)) (used next at a : ℕ) (xs xs' :
   pub kept : Kept at xs xs'
   pub drawn : w.count + w.left ≤ a
 
-pub settled : {x : Answer (Core × Meter)} {used next top a levels : ℕ} {xs xs₁ xs₂ : List ℕ} {w : Went} → Came x used next top a levels xs xs₁ w
+pub settled : {x : Answer (Core × Meter)} {used next top a levels : ℕ} {xs xs₁ xs₂ : List ℕ} {w : Walked} → Came x used next top a levels xs xs₁ w
     → Kept top xs₁ xs₂ → ((c : Core) → Lies xs₁ w.at w.count c → Lies xs₂ top w.count c) → Settled x used next top a xs xs₂ w
 settled c kept moves =
     record {

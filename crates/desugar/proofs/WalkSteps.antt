@@ -4,6 +4,9 @@ use mathlib.Core.List.{List, [], ◌∷◌}
 use Prim.Native.Nat.{ℕ, ◌+◌, ◌-◌, ◌≤◌}
 use native.Mathlib.Omega.{arith}
 use lib.ListN.{length}
+use Rattle.std.specs.Prelude.{Result, Ok, Err}
+use Rattle.refusals.specs.declared.Refused.{Refused}
+use Rattle.desugar.specs.declared.went.Walked.{Walked}
 use Rattle.expr.specs.Answers.{Answer}
 use Rattle.expr.specs.Terms.{Core, one, Expr, Unary, TestNegation, LetBitRange, records}
 use Rattle.expr.specs.Form.{encode}
@@ -13,8 +16,6 @@ use Rattle.desugar.specs.Desugar.{desugar}
 use Rattle.desugar.specs.Memory.{Kept, Lies}
 use Rattle.desugar.specs.BindingWords.{Bound}
 use Rattle.desugar.specs.WalkWords.{TermsAt, Stack, Came, WalkedAs, Ready, ReadyOne, Operator1, Operands, negating, NegationRoom}
-use Rattle.desugar.specs.declared.went.Went.{Went}
-use Rattle.desugar.specs.declared.went.Walked.{Walked}
 use Rattle.desugar.proofs.Regions.{kept_all, kept_less}
 use Rattle.desugar.proofs.Closing.{one_operand}
 use Rattle.desugar.proofs.WalkLaws.{stack_moved, ready_first, Visited, wider, then_ok}
@@ -33,15 +34,15 @@ module _ {s xs : List ℕ} {from l last top a : ℕ} (place : ℕ) (q : ReadyOne
   abbrev x₁ : Answer (Core × Meter)
   x₁ = desugar q.env q.first (place + 1) (left a)
 
-  abbrev Told : Expr → List ℕ → Walked → Type 0
+  abbrev Told : Expr → List ℕ → Result Walked Refused → Type 0
   Told e ys r =
       WalkedAs (desugar q.env e place (left a)) (from + length (encode q.first)) (place + 1 + records q.first) top a (l + 1) xs ys r
 
-  abbrev pub Arrived : List ℕ → Went → ℕ → Type 0
+  abbrev pub Arrived : List ℕ → Walked → ℕ → Type 0
   Arrived xs₁ w top' = Came x₁ (from + length (encode q.first)) (place + 1 + records q.first) top' a l xs xs₁ w
 
   -- Complement, Star, LtlNext: a record below the operand
-  pub unary_done : {kind : ℕ} {w : Went} (xs₁ xs₂ : List ℕ) (r : Walked) (k : Operator1 kind) → Arrived xs₁ w (top + 3)
+  pub unary_done : {kind : ℕ} {w : Walked} (xs₁ xs₂ : List ℕ) (r : Result Walked Refused) (k : Operator1 kind) → Arrived xs₁ w (top + 3)
       → ((c : Core) → Operands c kind w xs₁
       → WalkedAs (drawing 1 place c (left w.left)) w.used w.next (w.at - 3) (w.count + w.left) 0 xs₁ xs₂ r)
       → Told (Unary k.o q.first) xs₂ r
@@ -54,7 +55,7 @@ module _ {s xs : List ℕ} {from l last top a : ℕ} (place : ℕ) (q : ReadyOne
       (one_operand k.o c.core k.is c.lies))
 
   -- TestNegation: the operand's negation in its place
-  pub negation_done : {w : Went} (xs₁ xs₂ : List ℕ) (r : Walked) → Arrived xs₁ w top
+  pub negation_done : {w : Walked} (xs₁ xs₂ : List ℕ) (r : Result Walked Refused) → Arrived xs₁ w top
       → ((c : Core) → Lies xs₁ w.at w.count c
       → WalkedAs (negating c place (left w.left)) w.used w.next w.at (w.count + w.left) 0 xs₁ xs₂ r)
       → Told (TestNegation q.first) xs₂ r
@@ -64,7 +65,7 @@ module _ {s xs : List ℕ} {from l last top a : ℕ} (place : ℕ) (q : ReadyOne
       xs xs₁ xs₂ r (then_ok _ c.is) c.used_is c.next_is c.above (omega (arith, c.reach)) c.drawn c.kept
       (negate c.core c.lies)
 
-  pub negation_room : {w : Went} {xs₁ : List ℕ} → Arrived xs₁ w top → NegationRoom xs₁ w
+  pub negation_room : {w : Walked} {xs₁ : List ℕ} → Arrived xs₁ w top → NegationRoom xs₁ w
   negation_room c =
       record {
         core = c.core;
@@ -86,7 +87,7 @@ module _ {s xs : List ℕ} {from l last top a : ℕ} (place : ℕ) (q : ReadyOne
           small = omega (arith, q.stack.small);
         })
 
-    pub alias_done : (xs₂ : List ℕ) (r : Walked) → Visited s from l (place + 1) inner (top + 5) a xs₁ xs₂ r → Told (LetBitRange x b e q.first) xs₂ r
+    pub alias_done : (xs₂ : List ℕ) (r : Result Walked Refused) → Visited s from l (place + 1) inner (top + 5) a xs₁ xs₂ r → Told (LetBitRange x b e q.first) xs₂ r
     alias_done xs₂ r v =
         wider (desugar q.env (LetBitRange x b e q.first) place (left a)) (desugar (range x b e ∷ q.env) q.first (place + 1) (left a))
         (from + length (encode q.first)) (from + length (encode q.first)) (place + 1 + records q.first) (place + 1 + records q.first)

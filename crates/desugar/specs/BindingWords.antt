@@ -3,13 +3,12 @@
 -- lies and how many records that has; of an alias, its range.
 use mathlib.Core.{Path.◌≡◌, Option.Option, Option.none, Option.some, List.List, List.[], List.◌∷◌}
 use Rattle.std.specs.Prelude.{ℕ, ◌+◌, ◌-◌, ◌*◌, ◌^◌, ◌≤◌, ◌<◌}
+use Rattle.std.specs.Prelude as std
 use lib.{ListN.length, ListN.get_or}
 use Rattle.expr.specs.{Terms.Core, Terms.Name}
 use Rattle.desugar.specs.{Bindings.Env, Bindings.variable, Bindings.range, Bindings.lookup_variable, Bindings.lookup_alias, Memory.Holds, Memory.Lies}
-use Rattle.desugar.specs.declared.bindings.Variable.{Variable}
-use Rattle.desugar.specs.declared.bindings.Variable.TheVariants as variable-found
-use Rattle.desugar.specs.declared.bindings.Alias.{Alias}
-use Rattle.desugar.specs.declared.bindings.Alias.TheVariants as alias-found
+use Rattle.desugar.specs.declared.Fields.{Fields}
+use Rattle.desugar.specs.declared.bindings.Region.{Region}
 
 -- a frame ends at index last, and the one around it ends below it
 pub record Frame (xs : List ℕ) (last kind : ℕ) (x : Name) (a b : ℕ) : Type 0 where
@@ -44,34 +43,36 @@ pub record FrameRoom (xs : List ℕ) (last top : ℕ) : Type 0 where
 
 -- ## What a look-up finds
 
--- the end of a variable's frame, or 0
-abbrev pub VariableEnd : List ℕ → Name → Option Core → ℕ → Type 0
-VariableEnd xs x (some c) r = VariableFrame xs r x c
-VariableEnd xs x none r = r ≡ 0
+-- the end of a variable's frame, if there is one
+abbrev pub VariableEnd : List ℕ → Name → Option Core → std.Option ℕ → Type 0
+VariableEnd xs x (some c) r = std.IsSomeAnd r (λ last. VariableFrame xs last x c)
+VariableEnd xs x none r = r ≡ std.None
 
--- the end of an alias's frame, or 0
-abbrev pub AliasEnd : List ℕ → Name → Option (ℕ × ℕ) → ℕ → Type 0
-AliasEnd xs x (some r) last = Frame xs last 1 x r.0 r.1
-AliasEnd xs x none last = last ≡ 0
+-- the end of an alias's frame, if there is one
+abbrev pub AliasEnd : List ℕ → Name → Option (ℕ × ℕ) → std.Option ℕ → Type 0
+AliasEnd xs x (some p) r = std.IsSomeAnd r (λ last. Frame xs last 1 x p.0 p.1)
+AliasEnd xs x none r = r ≡ std.None
 
--- the end of the innermost frame of a kind and a name, or 0
-pub record Ends (xs : List ℕ) (kind : ℕ) (x : Name) (env : Env Core) (r : ℕ) : Type 0 where
+-- the end of the innermost frame of a kind and a name, if there is one
+pub record Ends (xs : List ℕ) (kind : ℕ) (x : Name) (env : Env Core) (r : std.Option ℕ) : Type 0 where
   pub variables : kind ≡ 0 → VariableEnd xs x (lookup_variable env x) r
   pub aliases : kind ≡ 1 → AliasEnd xs x (lookup_alias env x) r
 
 -- where a core lies, below the end of the bindings
-pub record CoreAt (xs : List ℕ) (last : ℕ) (c : Core) (r : Variable) : Type 0 where
-  pub at : ℕ
-  pub count : ℕ
-  pub is : r ≡ variable-found.At at count
-  pub lies : Lies xs at count c
-  pub below : at + 3 * count ≤ last
+pub record CoreAt (xs : List ℕ) (last : ℕ) (c : Core) (r : Region) : Type 0 where
+  pub lies : Lies xs r.at r.count c
+  pub below : r.at + 3 * r.count ≤ last
 
-abbrev pub VariableTold : List ℕ → ℕ → Option Core → Variable → Type 0
-VariableTold xs last (some c) r = CoreAt xs last c r
-VariableTold xs last none r = r ≡ variable-found.Unbound
+abbrev pub VariableFound : List ℕ → ℕ → Option Core → std.Option Region → Type 0
+VariableFound xs last (some c) r = std.IsSomeAnd r (CoreAt xs last c)
+VariableFound xs last none r = r ≡ std.None
 
--- the range that an alias has, if there is one
-abbrev pub alias_range : Alias → Option (ℕ × ℕ)
-alias_range (alias-found.Range s e) = some (s, e)
-alias_range alias-found.Unbound = none
+-- the range that fields are, if there are any
+abbrev pub fields_pair : std.Option Fields → Option (ℕ × ℕ)
+fields_pair (std.Some f) = some (f.start, f.end)
+fields_pair std.None = none
+
+-- 13 where a name that no variable has is an alias's, else 12
+abbrev pub unbound_number : Option (ℕ × ℕ) → ℕ
+unbound_number (some r) = 13
+unbound_number none = 12

@@ -1,10 +1,10 @@
 -- Bindings (document 01, "Walking rules"), and Subrange.
 use mathlib.Core.{Bool.cond, Bool.◌&&◌, Option.Option, Option.none, Option.some, List.List, List.[], List.◌∷◌}
 use Rattle.std.specs.Prelude.{ℕ, ◌+◌, ◌^◌}
+use Rattle.std.specs.Prelude as std
 use lib.{Dec.leb, Dec.ltb, Dec.eqb}
 use Rattle.expr.specs.{Answers.Answer, Answers.ok, Answers.refuse, Answers.and_then, Answers.need, Terms.Name, Terms.Where, Terms.Direct, Terms.Alias}
-use Rattle.desugar.specs.declared.Subrange.{Subrange}
-use Rattle.desugar.specs.declared.Subrange.TheVariants.{Fields, Outside}
+use Rattle.desugar.specs.declared.Fields.{Fields}
 
 -- a Let gives a variable a value: a core, whether it is a test, a relation, whether its kinds are one-step, or its definition and place. A
 -- LetBitRange gives an alias a range
@@ -39,7 +39,7 @@ compute_subrange a b s e =
     and_then (need (ltb (a + s) (2 ^ 32) && (ltb (a + e) (2 ^ 32) && (leb s e && leb (a + e) b))) 28 0) λ _.
     ok (a + s, a + e)
 
--- the paper's number and values for each case of the enum that `compute_subrange` answers
-abbrev pub subrange_answer : Subrange → Answer (ℕ × ℕ)
-subrange_answer (Fields s e) = ok (s, e)
-subrange_answer Outside = refuse 28 0
+-- the fields that are found, or refusal 28
+abbrev pub subrange_answer : std.Option Fields → Answer (ℕ × ℕ)
+subrange_answer (std.Some f) = ok (f.start, f.end)
+subrange_answer std.None = refuse 28 0

@@ -3,7 +3,7 @@ use mathlib.Core.{Path.◌≡◌, List.List, List.[], List.◌++◌}
 use Rattle.std.specs.Prelude.{ℕ, zero, suc, ◌+◌, ◌*◌, ◌≤◌, ◌<◌}
 use lib.{ListN.length, ListN.get_or, ListN.drop, Seq.sets}
 use Rattle.expr.specs.{Terms.Core, Records.Record, Records.write_record, Form.encode_core}
-use Rattle.desugar.specs.{Memory.Lies}
+use Rattle.desugar.specs.{Memory.Lies, declared.core_bytes.CoreRecord.CoreRecord}
 
 -- a record of a kind, a field and a value
 abbrev pub core_record : ℕ → ℕ → ℕ → Record
@@ -14,9 +14,17 @@ pub record CoreShape (k f v : ℕ) : Type 0 where
   pub bare : 7 ≤ k → (f ≡ 0) × (v ≡ 0)
   pub named : 0 < f → 0 < k
 
+-- the record at index i
+abbrev pub record_at : List ℕ → ℕ → CoreRecord
+record_at xs i = record { kind = get_or xs i 0; field = get_or xs (i + 1) 0; value = get_or xs (i + 2) 0 }
+
+-- the bytes of a record
+abbrev pub bytes_of_record : CoreRecord → List ℕ
+bytes_of_record r = write_record (core_record r.kind r.field r.value)
+
 -- the bytes of the record at index i
 abbrev pub record_bytes : List ℕ → ℕ → List ℕ
-record_bytes xs i = write_record (core_record (get_or xs i 0) (get_or xs (i + 1) 0) (get_or xs (i + 2) 0))
+record_bytes xs i = bytes_of_record (record_at xs i)
 
 -- the bytes of the n records from index at on
 abbrev pub records_bytes : List ℕ → ℕ → ℕ → List ℕ

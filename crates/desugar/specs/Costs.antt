@@ -1,5 +1,5 @@
 -- How many nodes a pattern's core has, without making one (document 02, change 5, "What a pattern will cost"). A leaf draws "its whole core": that
--- this is what it draws is `cost-theorem` (netkat/proofs/Theorems.antt).
+-- this is what it draws is `cost_theorem` (netkat/proofs/Theorems.antt).
 use mathlib.Core.{Bool.Bool, Bool.true, Bool.false, Bool.cond, Bool.beq, List.[], List.◌∷◌}
 use Rattle.std.specs.Prelude.{ℕ, ◌+◌, ◌-◌, ◌*◌, ◌^◌}
 use lib.{Dec.eqb, ListN.length}

@@ -1,10 +1,12 @@
--- In what order the records of a range's core are written to work memory: the words of the contracts of src/leaves.rt, src/masks.rt and
--- src/between.rt. How many they are stands in Costs.
+-- In what order the records of a range's core are written to work memory: the words of the contracts of src/leaves.rt, src/standing.rt,
+-- src/masks.rt and src/between.rt. How many they are stands in Costs.
 use mathlib.Core.{Path.◌≡◌, Bool.Bool, Bool.true, Bool.false, Bool.cond, Bool.not, Bool.beq, List.List, List.[], List.◌∷◌, List.◌++◌}
 use Rattle.std.specs.Prelude.{ℕ, zero, suc, ◌+◌, ◌-◌, ◌*◌, ◌^◌, ◌≤◌, ◌<◌}
 use lib.{ListN.length, ListN.get_or, Seq.sets}
 use Rattle.literals.specs.{Bits.Bits, Bits.bit}
 use Rattle.expr.specs.{Terms.Atom, Terms.Op2, Terms.Core, Terms.leaf, Terms.op2_kind, Terms.One, Terms.Test, Terms.Intersect, Terms.Union}
+use Rattle.desugar.specs.declared.leaves.Chain.{Chain}
+use Rattle.desugar.specs.declared.leaves.Chain.TheVariants.{Assigns, Tests}
 use Rattle.desugar.specs.{Leaves.chain, Leaves.high_first, Costs.chain_size, Costs.differences_size, Memory.Holds, Memory.words, Rules.max_range_bits, declared.leaves.Progress.Progress, declared.standing.Standing.Standing}
 
 -- n bits of a literal, from index i on: false beyond its last
@@ -16,6 +18,15 @@ stretch a i (suc n) = get_or a i false ∷ stretch a (suc i) n
 abbrev pub linked : Op2 → List Core → List ℕ
 linked o [] = []
 linked o (c ∷ cs) = op2_kind o ∷ 0 ∷ 0 ∷ (words c ++ linked o cs)
+
+-- the kinds of the operator and of the atoms of a chain
+abbrev pub chain_operator : Chain → ℕ
+chain_operator Assigns = 11
+chain_operator Tests = 8
+
+abbrev pub chain_atom : Chain → ℕ
+chain_atom Assigns = 5
+chain_atom Tests = 6
 
 -- the kinds of an operator and of an atom with a field and a bit
 pub record Kinds (operator atom : ℕ) (o : Op2) (f : ℕ → Bool → Atom) : Type 0 where
@@ -83,19 +94,10 @@ abbrev pub trim : Bits → ℕ → ℕ
 trim m zero = 0
 trim m (suc w) = cond (get_or m w false) (trim m w) (suc w)
 
--- the test of bit i of an address, where its mask is false
-abbrev pub tested : ℕ → Bits → Bits → ℕ → List Core
-tested s a m i = cond (get_or m i false) [] (leaf (Test (s + i) (get_or a i false)) ∷ [])
-
 -- the numbers xs have room for n records from index at on, and the fields of a range can be counted
 pub record RangeRoom (xs : List ℕ) (at n start width : ℕ) : Type 0 where
   pub room : at + 3 * n ≤ length xs
   pub fields : start + width ≤ 2 ^ 32
-
--- the test of bit i was written at index at, where there is one, and r is the index behind it
-pub record Tested (s : ℕ) (a m : Bits) (i : ℕ) (xs : List ℕ) (at : ℕ) (xs' : List ℕ) (r : ℕ) : Type 0 where
-  pub written : xs' ≡ sets xs at (linked Intersect (tested s a m i))
-  pub next : r ≡ at + 6 * cond (get_or m i false) 0 1
 
 -- ## Ranges of values
 

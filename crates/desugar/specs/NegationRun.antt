@@ -1,12 +1,26 @@
 -- How a test in work memory is negated, record by record. Only the contracts of src/test_negation/ speak of this.
 use mathlib.Core.{Path.◌≡◌, Bool.Bool, Bool.true, Bool.false, Bool.cond, Bool.◌&&◌, List.List, List.[], List.◌∷◌, List.◌++◌}
-use Rattle.std.specs.Prelude.{ℕ, zero, suc, ◌+◌, ◌-◌, ◌*◌, ◌/◌, ◌%◌, ◌^◌, ◌≤◌, ◌<◌}
+use Rattle.std.specs.Prelude.{ℕ, zero, suc, ◌+◌, ◌-◌, ◌*◌, ◌/◌, ◌%◌, ◌^◌, ◌≤◌, ◌<◌, Option, Some, None}
 use lib.{Dec.leb, Dec.ltb, Dec.eqb, ListN.length, ListN.get_or}
 use Rattle.literals.specs.{Bits.bit}
 use Rattle.expr.specs.{Terms.Core, Terms.leaf, Terms.one, Terms.two, Terms.atom_kind, Terms.op1_kind, Terms.op2_kind, Terms.size}
-use Rattle.desugar.specs.declared.test_negation.negated.Negated.{Negated}
-use Rattle.desugar.specs.declared.test_negation.negated.Negated.TheVariants.{Size, TooLarge}
+use Rattle.desugar.specs.declared.test_negation.modes.Mode.{Mode}
+use Rattle.desugar.specs.declared.test_negation.modes.Mode.TheVariants.{Negate, Keep, Again, Skip}
+use Rattle.desugar.specs.declared.test_negation.modes.Side.{Side}
+use Rattle.desugar.specs.declared.test_negation.modes.Side.TheVariants.{Left, Right}
+use Rattle.desugar.specs.declared.test_negation.modes.Written.{Written}
+use Rattle.desugar.specs.declared.test_negation.modes.Written.TheVariants.{Nothing, Record, FromOne}
+use Rattle.desugar.specs.declared.test_negation.notes.Note.{Note}
+use Rattle.desugar.specs.declared.test_negation.places.Places.{Places}
+use Rattle.desugar.specs.declared.test_negation.negated.Next.{Next}
 use Rattle.desugar.specs.{Negation.is_test, Negation.is_one, Negation.again, Negation.negate, Memory.atom_field, Memory.atom_value, Memory.words, Memory.words_all, Memory.size_all, Memory.Holds, Memory.Lies}
+
+-- ## Kinds
+
+-- has each of the n records from index at on a kind with this property
+abbrev pub all_kinds : (ℕ → Bool) → List ℕ → ℕ → ℕ → Bool
+all_kinds kinds xs at zero = true
+all_kinds kinds xs at (suc n) = kinds (get_or xs at 0) && all_kinds kinds xs (at + 3) n
 
 -- ## Forests: the first record of the first core goes, and its operands come
 
@@ -88,34 +102,39 @@ pub record TwoNotes (xs : List ℕ) (note : ℕ) : Type 0 where
   pub right_in : note + 1 + left_at xs note / 2 < length xs
   pub small : left_at xs note + right_at xs note + 2 < 2 ^ 32
 
--- a note's parts: the size, and 1 if the core is One when desugared again
-pub record Parts (note size one : ℕ) : Type 0 where
-  pub size_is : size ≡ note / 2
-  pub one_is : one ≡ note % 2
+-- a note as a number
+abbrev pub note_number : Note → ℕ
+note_number n = 2 * n.size + bit n.one
 
--- the record at index here can be noted at index note, with the parts of its first operand's note
-pub record CanNote (xs : List ℕ) (here note size one : ℕ) : Type 0 where
+-- the record at index here can be noted at index note, where last is its first operand's note
+pub record CanNote (xs : List ℕ) (here note : ℕ) (last : Note) : Type 0 where
   pub here_in : here < length xs
   pub note_in : note < length xs
   pub operands_in : 7 ≤ get_or xs here 0 → TwoNotes xs note
-  pub parts : 7 ≤ get_or xs here 0 → Parts (left_at xs note) size one
+  pub first : 7 ≤ get_or xs here 0 → note_number last ≡ left_at xs note
 
--- the test c lies at index at, and its notes at index notes
-pub record Noted (xs : List ℕ) (at n notes : ℕ) (c : Core) : Type 0 where
-  pub lies : Lies xs at n c
+-- the test c lies in its place, and its notes in theirs
+pub record Noted (xs : List ℕ) (p : Places) (c : Core) : Type 0 where
+  pub lies : Lies xs p.at p.n c
   pub test : is_test c ≡ true
-  pub noted : Holds xs notes (notes_of c)
+  pub noted : Holds xs p.notes (notes_of c)
 
 -- ## Modes: what is to be done with a core
 
-pub data Mode : Type 0 where
-  negating keeping redoing skipping : Mode
-
 abbrev pub code : Mode → ℕ
-code negating = 0
-code keeping = 1
-code redoing = 2
-code skipping = 3
+code Negate = 0
+code Keep = 1
+code Again = 2
+code Skip = 3
+
+-- the mode with this number
+abbrev pub mode_of : ℕ → Mode
+mode_of number = cond (eqb number 0) Negate (cond (eqb number 1) Keep (cond (eqb number 2) Again Skip))
+
+abbrev pub side_code : Option Side → ℕ
+side_code None = 0
+side_code (Some Left) = 1
+side_code (Some Right) = 2
 
 -- which operand of a Sequence is dropped where it is desugared again: 1 the left, 2 the right, 0 none
 abbrev pub drop_of : Bool → Bool → ℕ
@@ -123,6 +142,11 @@ drop_of l r = cond l 1 (cond r 2 0)
 
 abbrev pub drop_at : List ℕ → ℕ → ℕ → ℕ → ℕ
 drop_at xs note mode kind = cond (eqb mode 2) (cond (eqb kind 11) (drop_of (eqb (left_at xs note % 2) 1) (eqb (right_at xs note % 2) 1)) 0) 0
+
+abbrev pub written_size : Written → ℕ
+written_size Nothing = 0
+written_size Record = 1
+written_size FromOne = 3
 
 -- how many records are written for a record
 abbrev pub count_of : ℕ → ℕ → ℕ → ℕ
@@ -154,10 +178,10 @@ pub data Task : Type 0 where
 
 -- what is written for a core
 abbrev pub emit : Mode → Core → List ℕ
-emit negating c = words (negate c)
-emit keeping c = words c
-emit redoing c = words (again c)
-emit skipping c = []
+emit Negate c = words (negate c)
+emit Keep c = words c
+emit Again c = words (again c)
+emit Skip c = []
 
 abbrev pub emit_all : List Task → List ℕ
 emit_all [] = []
@@ -171,33 +195,33 @@ abbrev pub codes_of : List Task → List ℕ
 codes_of [] = []
 codes_of (task m c ∷ ts) = code m ∷ codes_of ts
 
--- the pass over the core t, before record j: the stack of modes begins at top, and made records are written
-pub record Run (xs : List ℕ) (t : Core) (at n notes modes out j top made : ℕ) : Type 0 where
+-- the pass over the core t, before record j: the stack of modes begins at s.top, and s.made records are written
+pub record Run (xs : List ℕ) (t : Core) (p : Places) (j : ℕ) (s : Next) : Type 0 where
   pub plan : List Task
   pub test : all_test (cores_of plan) ≡ true
-  pub records : Holds xs (at + 3 * j) (words_all (cores_of plan))
-  pub noted : Holds xs (notes + j) (notes_all (cores_of plan))
-  pub stack : Holds xs top (codes_of plan)
-  pub depth : top + length plan ≡ modes + n
-  pub left : j + size_all (cores_of plan) ≡ n
+  pub records : Holds xs (p.at + 3 * j) (words_all (cores_of plan))
+  pub noted : Holds xs (p.notes + j) (notes_all (cores_of plan))
+  pub stack : Holds xs s.top (codes_of plan)
+  pub depth : s.top + length plan ≡ p.modes + p.n
+  pub left : j + size_all (cores_of plan) ≡ p.n
   pub done : List ℕ
-  pub written : Holds xs out done
-  pub long : length done ≡ 3 * made
+  pub written : Holds xs p.out done
+  pub long : length done ≡ 3 * s.made
   pub goal : done ++ emit_all plan ≡ words (negate t)
 
 -- after a turn: the run goes on, or the whole is above the limit
-pub record Stepped (xs : List ℕ) (t : Core) (at n notes modes out limit j top made : ℕ) : Type 0 where
-  pub on : made ≤ limit → Run xs t at n notes modes out j top made
-  pub over : limit < made → limit < size (negate t)
+pub record Stepped (xs : List ℕ) (t : Core) (p : Places) (j : ℕ) (s : Next) : Type 0 where
+  pub on : s.made ≤ p.limit → Run xs t p j s
+  pub over : p.limit < s.made → p.limit < size (negate t)
 
-abbrev pub within : Bool → ℕ → Negated
-within true n = Size n
-within false n = TooLarge
+abbrev pub within : Bool → ℕ → Option ℕ
+within true n = Some n
+within false n = None
 
-abbrev pub answer : ℕ → ℕ → Negated
+abbrev pub answer : ℕ → ℕ → Option ℕ
 answer limit n = within (leb n limit) n
 
--- r is the size of the negation of c, which lies at index out, or says that the size is above the limit
-pub record Result (xs : List ℕ) (c : Core) (out limit : ℕ) (r : Negated) : Type 0 where
+-- r is the size of the negation of c, which lies at index out, or None where the size is above the limit
+pub record Result (xs : List ℕ) (c : Core) (out limit : ℕ) (r : Option ℕ) : Type 0 where
   pub is : r ≡ answer limit (size (negate c))
   pub holds : size (negate c) ≤ limit → Holds xs out (words (negate c))

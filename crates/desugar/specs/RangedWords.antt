@@ -1,14 +1,17 @@
 -- Atoms and uses of ranges: the words of the contracts of src/rules.rt, src/ranged.rt and src/leaf.rt.
 use mathlib.Core.{Path.◌≡◌, Bool.Bool, Bool.true, Bool.false, Bool.cond, List.List, List.[], List.◌∷◌}
-use Rattle.std.specs.Prelude.{ℕ, ◌+◌, ◌-◌, ◌*◌, ◌^◌, ◌≤◌, ◌<◌}
-use lib.{Dec.eqb, ListN.length, ListN.get_or, ListN.take}
-use Rattle.literals.specs.{Bits.unpack}
-use Rattle.expr.specs.{Answers.Answer, Answers.ok, Answers.refuse, Answers.and_then, Terms.Atom, Terms.Zero, Terms.One, Terms.Top, Terms.Dup, Terms.End, Terms.Assign, Terms.Test, Terms.Core, Terms.Where, Terms.Direct, Terms.Alias, Terms.Use, Terms.size, Records.Record, Form.max_records, Form.pattern_of, Results.HeadInside}
+use Rattle.std.specs.Prelude.{ℕ, ◌+◌, ◌-◌, ◌*◌, ◌^◌, ◌≤◌, ◌<◌, Result, Ok, Err}
+use lib.{Dec.eqb, ListN.length, ListN.get_or, ListN.drop}
+use Rattle.expr.specs.{Answers.Answer, Answers.ok, Answers.refuse, Answers.and_then, Terms.Atom, Terms.Zero, Terms.One, Terms.Top, Terms.Dup, Terms.End, Terms.Assign, Terms.Test, Terms.Core, Terms.Where, Terms.Direct, Terms.Alias, Terms.size, Records.Record, Form.max_records, Form.pattern_of, Results.HeadInside, Results.record_of}
+use Rattle.literals.specs.Results.{literal_bits}
+use Rattle.expr.specs.Terms as written
+use Rattle.refusals.specs.Refusals.{number_of}
+use Rattle.refusals.specs.declared.Refusal.{Refusal}
+use Rattle.expr.specs.Kinds.{kind_number, pattern_number}
 use Rattle.expr.specs.declared.records.Head.{Head}
-use Rattle.expr.specs.declared.records.HeadRead.TheVariants as head
+use Rattle.desugar.specs.declared.Fields.{Fields}
+use Rattle.desugar.specs.declared.ranged.Use.{Use}
 use Rattle.desugar.specs.{Bindings.Env, Bindings.find_range, Meter.Draws, Meter.drawing, Rules.known_range, Rules.max_range_bits, Rules.pattern_rule, Rules.use_rule, Rules.range_rule, Leaves.use_core, BindingWords.Bound, WalkWords.where_of, WalkWords.use_of}
-use Rattle.desugar.specs.declared.ranged.Judged.{Judged}
-use Rattle.desugar.specs.declared.ranged.Judged.TheVariants as judged
 
 -- ## Records
 
@@ -16,30 +19,37 @@ use Rattle.desugar.specs.declared.ranged.Judged.TheVariants as judged
 abbrev pub atom_of : Record → Atom
 atom_of h = get_or (Zero ∷ One ∷ Top ∷ Dup ∷ End ∷ Assign h.start (eqb h.number 1) ∷ Test h.start (eqb h.number 1) ∷ []) h.kind Zero
 
--- the record that a head stands for, given the bytes that its literals begin in
-abbrev pub record_with : (a b : List ℕ) → Head → Record
-record_with a b h =
+-- the record that a use of a range stands for. Its name and its fields are of no account
+abbrev pub record_in : Use → Record
+record_in u =
     record {
-      kind = h.kind;
-      name = h.name;
-      start = h.start;
-      end = h.end;
-      pattern = h.pattern;
-      number = h.number;
-      lit_a = take h.a.bits (unpack a);
-      lit_b = take h.b.bits (unpack b);
+      kind = kind_number u.kind;
+      name = 0;
+      start = 0;
+      end = 0;
+      pattern = pattern_number u.pattern;
+      number = u.number;
+      lit_a = literal_bits u.a;
+      lit_b = literal_bits u.b;
     }
 
 -- no bit of its literals is lacking
-pub record Literals (a b : List ℕ) (h : Head) : Type 0 where
-  pub first : length (record_with a b h).lit_a ≡ h.a.bits
-  pub second : length (record_with a b h).lit_b ≡ h.b.bits
+pub record Whole (u : Use) : Type 0 where
+  pub first : length (literal_bits u.a) ≡ u.a.len
+  pub second : length (literal_bits u.b) ≡ u.b.len
+
+-- the use of a range by the record that a head stands for, its literals taken from the bytes s
+pub record UseIn (s : List ℕ) (h : Head) (u : Use) : Type 0 where
+  pub whole : Whole u
+  pub same : use_of (record_in u) ≡ use_of (record_of s h)
+  pub rule : (r : ℕ × ℕ) (at : ℕ) → range_rule (where_of (record_in u)) (use_of (record_in u)) r at ≡ range_rule (where_of (record_of s h)) (use_of (record_of s h)) r at
 
 -- ## Rules
 
--- the number of the rule that is broken, or 0: the answer at a place
-abbrev pub rule_answer : ℕ → ℕ → Answer (Unit {0})
-rule_answer r at = cond (eqb r 0) (ok tt) (refuse r at)
+-- the refusal by the rule that is broken, if one is: the answer at a place
+abbrev pub rule_answer : Result (Unit {0}) Refusal → ℕ → Answer (Unit {0})
+rule_answer (Ok u) at = ok tt
+rule_answer (Err e) at = refuse (number_of e) at
 
 -- whether a range is written out
 abbrev pub is_direct : Where → Bool
@@ -47,34 +57,34 @@ is_direct (Direct s e) = true
 is_direct (Alias x) = false
 
 -- a pattern on n fields, and a use of them, that keep the rules
-pub record PatternKept (a b : List ℕ) (h : Head) (n : ℕ) : Type 0 where
-  pub literals : Literals a b h
-  pub rule : pattern_rule (pattern_of (record_with a b h)) n 0 ≡ ok tt
+pub record PatternKept (u : Use) (n : ℕ) : Type 0 where
+  pub whole : Whole u
+  pub rule : pattern_rule (pattern_of (record_in u)) n 0 ≡ ok tt
   pub few : n < 2 ^ 32
 
-pub record UseKept (a b : List ℕ) (h : Head) (n : ℕ) : Type 0 where
-  pub literals : Literals a b h
-  pub rule : use_rule (where_of (record_with a b h)) (use_of (record_with a b h)) n 0 ≡ ok tt
+pub record UseKept (u : Use) (n : ℕ) : Type 0 where
+  pub whole : Whole u
+  pub rule : use_rule (where_of (record_in u)) (use_of (record_in u)) n 0 ≡ ok tt
   pub few : n < 2 ^ 32
 
--- a use of the fields from start up to end that keeps the rules
-pub record RangeKept (a b : List ℕ) (h : Head) (start end : ℕ) : Type 0 where
-  pub literals : Literals a b h
-  pub rule : range_rule (where_of (record_with a b h)) (use_of (record_with a b h)) (start, end) 0 ≡ ok tt
+-- a use of fields that keeps the rules
+pub record RangeKept (u : Use) (f : Fields) : Type 0 where
+  pub whole : Whole u
+  pub rule : range_rule (where_of (record_in u)) (use_of (record_in u)) (f.start, f.end) 0 ≡ ok tt
 
 -- a record that was read from the bytes s, and the bindings
 pub record RangeReady (s : List ℕ) (h : Head) (last : ℕ) (xs : List ℕ) : Type 0 where
-  pub inside : HeadInside s (head.Found h)
+  pub inside : HeadInside s (Ok h)
   pub env : Env Core
   pub bound : Bound xs last env
 
 -- the range of a use that keeps the rules 11 and 14 to 21
-abbrev pub judged_range : Env Core → Where → Use → ℕ → Answer (ℕ × ℕ)
+abbrev pub judged_range : Env Core → Where → written.Use → ℕ → Answer (ℕ × ℕ)
 judged_range env w u at = and_then (known_range (find_range env w) at) λ r. and_then (range_rule w u r at) λ _. ok r
 
-abbrev pub judged_answer : Judged → ℕ → Answer (ℕ × ℕ)
-judged_answer (judged.Range s e) at = ok (s, e)
-judged_answer (judged.Refused n) at = refuse n at
+abbrev pub judged_answer : Result Fields Refusal → ℕ → Answer (ℕ × ℕ)
+judged_answer (Ok f) at = ok (f.start, f.end)
+judged_answer (Err e) at = refuse (number_of e) at
 
 -- ## Cores
 
@@ -85,12 +95,12 @@ pub record Bounds (low high width : ℕ) : Type 0 where
   pub wide : width ≤ max_range_bits
 
 -- the numbers xs have room for the core of a use from index top on, and its fields can be counted
-pub record UseRoom (xs : List ℕ) (top : ℕ) (u : Use) (start n : ℕ) : Type 0 where
+pub record UseRoom (xs : List ℕ) (top : ℕ) (u : written.Use) (start n : ℕ) : Type 0 where
   pub room : top + 3 * size (use_core u start n) ≤ length xs
   pub fields : start + n < 2 ^ 32
 
 -- the draw of a use of a range
-abbrev pub use_drawn : Use → ℕ × ℕ → ℕ → Draws Core
+abbrev pub use_drawn : written.Use → ℕ × ℕ → ℕ → Draws Core
 use_drawn u r at = drawing (size (use_core u r.0 (r.1 - r.0))) at (use_core u r.0 (r.1 - r.0))
 
 -- room for what may be drawn at a record

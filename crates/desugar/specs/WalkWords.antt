@@ -1,16 +1,14 @@
 -- The walk over a term's bytes: the words of the contracts of src/walk.rt, src/went.rt and src/leaf.rt.
 use mathlib.Core.{Path.◌≡◌, Bool.Bool, Bool.cond, Bool.◌&&◌, Bool.◌||◌, List.List, List.[], List.◌∷◌, List.◌++◌}
-use Rattle.std.specs.Prelude.{ℕ, ◌+◌, ◌*◌, ◌^◌, ◌≤◌, ◌<◌}
+use Rattle.std.specs.Prelude.{ℕ, ◌+◌, ◌*◌, ◌^◌, ◌≤◌, ◌<◌, Result, Ok, Err}
 use lib.{Dec.leb, Dec.eqb, ListN.length, ListN.drop}
 use Rattle.expr.specs.{Answers.Answer, Answers.ok, Answers.refuse, Answers.and_then, Answers.need, Terms.Op1, Terms.Op2, Terms.Union, Terms.Sequence, Terms.Core, Terms.two, Terms.Where, Terms.Direct, Terms.Alias, Terms.Use, Terms.Assigns, Terms.Tests, Terms.Matches, Terms.Expr, Terms.op1_kind, Terms.op2_kind, Terms.size, Terms.records, Terms.depth, Records.Record, Form.max_records, Form.encode, Form.Fits, Form.pattern_of, Replaced.encode_all, Replaced.records_all, Replaced.depth_all, Replaced.FitAll, Results.HeadInside}
+use Rattle.refusals.specs.Refusals.{number_of}
+use Rattle.refusals.specs.declared.Refused.{Refused}
 use Rattle.expr.specs.declared.records.Head.{Head}
-use Rattle.expr.specs.declared.records.HeadRead.TheVariants as head
 use Rattle.desugar.specs.{Bindings.Env, Desugar.desugar, Meter.Meter, Meter.left, Meter.Draws, Meter.◌>>=◌, Meter.lift, Meter.drawing, Negation.is_test, Negation.is_one, Negation.negate, Memory.words, Memory.Holds, Memory.Kept, Memory.Lies, NegationOutcome.Negates, BindingWords.Bound}
-use Rattle.desugar.specs.declared.test_negation.Outcome.{Outcome}
-use Rattle.desugar.specs.declared.test_negation.Outcome.TheVariants as outcome
-use Rattle.desugar.specs.declared.went.Went.{Went}
+use Rattle.desugar.specs.declared.test_negation.NegationError.{NegationError}
 use Rattle.desugar.specs.declared.went.Walked.{Walked}
-use Rattle.desugar.specs.declared.went.Walked.TheVariants.{Done, Refused}
 
 -- ## Terms in bytes
 
@@ -42,7 +40,7 @@ pub record Stack (xs : List ℕ) (last top allowance levels : ℕ) (env : Env Co
   pub small : top + 8 * allowance + 12 * levels < 2 ^ 32
 
 -- a walk came to a core: x is its definition's answer. The core lies at or above the top; nothing below the top has changed
-pub record Came (x : Answer (Core × Meter)) (used next top allowance levels : ℕ) (xs xs' : List ℕ) (w : Went) : Type 0 where
+pub record Came (x : Answer (Core × Meter)) (used next top allowance levels : ℕ) (xs xs' : List ℕ) (w : Walked) : Type 0 where
   pub core : Core
   pub is : x ≡ ok (core, left w.left)
   pub used_is : w.used ≡ used
@@ -54,9 +52,9 @@ pub record Came (x : Answer (Core × Meter)) (used next top allowance levels : �
   pub drawn : w.count + w.left ≤ allowance
 
 -- r is the definition's answer x: the index of the byte behind the term, the index of the record behind it, and the core; or the refusal
-abbrev pub WalkedAs : Answer (Core × Meter) → (used next top allowance levels : ℕ) → (xs xs' : List ℕ) → Walked → Type 0
-WalkedAs x used next top allowance levels xs xs' (Done w) = Came x used next top allowance levels xs xs' w
-WalkedAs x used next top allowance levels xs xs' (Refused n p) = x ≡ refuse n p
+abbrev pub WalkedAs : Answer (Core × Meter) → (used next top allowance levels : ℕ) → (xs xs' : List ℕ) → Result Walked Refused → Type 0
+WalkedAs x used next top allowance levels xs xs' (Ok w) = Came x used next top allowance levels xs xs' w
+WalkedAs x used next top allowance levels xs xs' (Err e) = x ≡ refuse (number_of e.refusal) e.place
 
 -- ## What is asked
 
@@ -93,21 +91,21 @@ pub record ReadyThree (s : List ℕ) (from levels place last top allowance : ℕ
 -- ## What is told of the answer
 
 -- of a term
-abbrev pub TermWalked : {s xs : List ℕ} {at levels place last top allowance : ℕ} → Ready s at levels place last top allowance xs → List ℕ → Walked → Type 0
+abbrev pub TermWalked : {s xs : List ℕ} {at levels place last top allowance : ℕ} → Ready s at levels place last top allowance xs → List ℕ → Result Walked Refused → Type 0
 TermWalked {s} {xs} {at} {levels} {place} {last} {top} {allowance} q =
     WalkedAs (desugar q.env q.term place (left allowance)) (at + length (encode q.term)) (place + records q.term) top allowance levels xs
 
 -- of a node f with its children
-abbrev pub OneWalked : {s xs : List ℕ} {from levels place last top allowance : ℕ} → ReadyOne s from levels place last top allowance xs → (Expr → Expr) → List ℕ → Walked → Type 0
+abbrev pub OneWalked : {s xs : List ℕ} {from levels place last top allowance : ℕ} → ReadyOne s from levels place last top allowance xs → (Expr → Expr) → List ℕ → Result Walked Refused → Type 0
 OneWalked {s} {xs} {from} {levels} {place} {last} {top} {allowance} q f =
     WalkedAs (desugar q.env (f q.first) place (left allowance)) (from + length (encode q.first)) (place + 1 + records q.first) top allowance (levels + 1) xs
 
-abbrev pub TwoWalked : {s xs : List ℕ} {from levels place last top allowance : ℕ} → ReadyTwo s from levels place last top allowance xs → (Expr → Expr → Expr) → List ℕ → Walked → Type 0
+abbrev pub TwoWalked : {s xs : List ℕ} {from levels place last top allowance : ℕ} → ReadyTwo s from levels place last top allowance xs → (Expr → Expr → Expr) → List ℕ → Result Walked Refused → Type 0
 TwoWalked {s} {xs} {from} {levels} {place} {last} {top} {allowance} q f =
     WalkedAs (desugar q.env (f q.first q.second) place (left allowance)) (from + length (encode_all (q.first ∷ q.second ∷ [])))
     (place + 1 + records q.first + records q.second) top allowance (levels + 1) xs
 
-abbrev pub ThreeWalked : {s xs : List ℕ} {from levels place last top allowance : ℕ} → ReadyThree s from levels place last top allowance xs → (Expr → Expr → Expr → Expr) → List ℕ → Walked → Type 0
+abbrev pub ThreeWalked : {s xs : List ℕ} {from levels place last top allowance : ℕ} → ReadyThree s from levels place last top allowance xs → (Expr → Expr → Expr → Expr) → List ℕ → Result Walked Refused → Type 0
 ThreeWalked {s} {xs} {from} {levels} {place} {last} {top} {allowance} q f =
     WalkedAs (desugar q.env (f q.first q.second q.third) place (left allowance)) (from + length (encode_all (q.first ∷ q.second ∷ q.third ∷ [])))
     (place + 1 + records q.first + records q.second + records q.third) top allowance (levels + 1) xs
@@ -124,7 +122,7 @@ pub record Operator2 (kind : ℕ) : Type 0 where
 -- ## What becomes of the operands' cores
 
 -- the records behind the first record of c are those at w
-pub record Operands (c : Core) (kind : ℕ) (w : Went) (xs : List ℕ) : Type 0 where
+pub record Operands (c : Core) (kind : ℕ) (w : Walked) (xs : List ℕ) : Type 0 where
   pub rest : List ℕ
   pub words_are : words c ≡ kind ∷ 0 ∷ 0 ∷ rest
   pub holds : Holds xs w.at rest
@@ -143,38 +141,37 @@ abbrev pub choosing : Core → Core → Core → ℕ → Draws Core
 choosing c t e at = lift (need (is_test c) 23 at) >>= λ _. drawing (size (negate c) + 3) at (two Union (two Sequence c t) (two Sequence (negate c) e))
 
 -- a core at w, and room above it for its negation
-pub record NegationRoom (xs : List ℕ) (w : Went) : Type 0 where
+pub record NegationRoom (xs : List ℕ) (w : Walked) : Type 0 where
   pub core : Core
   pub lies : Lies xs w.at w.count core
   pub room : w.at + 5 * w.count + 3 * w.left ≤ length xs
   pub small : w.count + w.left < 2 ^ 30
 
 -- a core of n records with room for a record below it, and another core above it
-pub record JoinRoom (xs : List ℕ) (top n : ℕ) (b : Went) : Type 0 where
+pub record JoinRoom (xs : List ℕ) (top n : ℕ) (b : Walked) : Type 0 where
   pub apart : top + 3 + 3 * n ≤ b.at
   pub room : b.at + 3 * b.count ≤ length xs
 
 -- how many records of a negation are there
-abbrev pub negated_size : Outcome → ℕ
-negated_size (outcome.Size n) = n
-negated_size outcome.TooLarge = 0
-negated_size outcome.NotTest = 0
+abbrev pub negated_size : Result ℕ NegationError → ℕ
+negated_size (Ok n) = n
+negated_size (Err e) = 0
 
 -- the cores of an If: the condition's n records above the room for two, those of the first branch behind them, the room for a record, the
 -- condition's negation as far as there is one, and above that the other branch
-pub record Branches (xs : List ℕ) (top n m : ℕ) (negated : Outcome) (e : Went) (limit : ℕ) (c' t' e' : Core) : Type 0 where
+pub record Branches (xs : List ℕ) (top n m : ℕ) (negated : Result ℕ NegationError) (e : Walked) (limit : ℕ) (c' t' e' : Core) : Type 0 where
   pub condition : Lies xs (top + 6) n c'
   pub first : Lies xs (top + 6 + 3 * n) m t'
   pub negates : Negates xs c' (top + 9 + 3 * n + 3 * m) limit negated
   pub other : Lies xs e.at e.count e'
   pub within : e.left ≤ limit
 
-pub record BranchRoom (xs : List ℕ) (top n m size : ℕ) (e : Went) : Type 0 where
+pub record BranchRoom (xs : List ℕ) (top n m size : ℕ) (e : Walked) : Type 0 where
   pub apart : top + 9 + 3 * n + 3 * m + 3 * size ≤ e.at
   pub room : e.at + 3 * e.count ≤ length xs
 
 -- the same with the negation there: the core n'
-pub record United (xs : List ℕ) (top n m size : ℕ) (e : Went) (c t n' d : Core) : Type 0 where
+pub record United (xs : List ℕ) (top n m size : ℕ) (e : Walked) (c t n' d : Core) : Type 0 where
   pub condition : Lies xs (top + 6) n c
   pub first : Lies xs (top + 6 + 3 * n) m t
   pub negated : Lies xs (top + 9 + 3 * n + 3 * m) size n'
@@ -195,7 +192,7 @@ pub record ReadyElse (s : List ℕ) (from levels next last : ℕ) (xs : List ℕ
   pub small : top + 8 * (n + m + allowance) + 12 * levels + 12 < 2 ^ 32
 
 -- of an If, once its other branch is worked out
-abbrev pub ElseWalked : {s xs : List ℕ} {from levels next last top n m allowance : ℕ} → ReadyElse s from levels next last xs top n m allowance → ℕ → List ℕ → Walked → Type 0
+abbrev pub ElseWalked : {s xs : List ℕ} {from levels next last top n m allowance : ℕ} → ReadyElse s from levels next last xs top n m allowance → ℕ → List ℕ → Result Walked Refused → Type 0
 ElseWalked {s} {xs} {from} {levels} {next} {last} {top} {n} {m} {allowance} q place =
     WalkedAs (and_then (desugar q.env q.third next (left allowance)) (λ e. choosing q.condition_core q.first_core e.0 place e.1))
     (from + length (encode q.third)) (next + records q.third) top (n + m + allowance) (levels + 1) xs
@@ -212,8 +209,7 @@ use_of h =
 
 -- a record that was read from the bytes s, the bindings, and room for what may be drawn
 pub record LeafReady (s : List ℕ) (h : Head) (place last top allowance : ℕ) (xs : List ℕ) : Type 0 where
-  pub inside : HeadInside s (head.Found h)
-  pub kind : h.kind ≤ 26
+  pub inside : HeadInside s (Ok h)
   pub low : place < max_records
   pub env : Env Core
   pub bound : Bound xs last env

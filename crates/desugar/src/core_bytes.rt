@@ -1,142 +1,154 @@
 // The bytes of a core that lies in work memory: how many, and the bytes themselves.
-ghost use Rattle.std.specs.Prelude.{◌≡◌, cond, ◌+◌, ◌*◌, ◌%◌, ◌≤◌, ◌<◌, leb, length};
+ghost use Rattle.std.specs.Prelude.{◌≡◌, ◌+◌, ◌*◌, ◌≤◌, ◌<◌, leb, length};
 ghost use Rattle.literals.specs.Bits.{bit};
 ghost use Rattle.expr.specs.Terms.{Core};
-ghost use Rattle.expr.specs.Records.{map_of, stands, write_number, write_record};
+ghost use Rattle.expr.specs.Records.{map_of, stands, write_number};
 ghost use Rattle.expr.specs.Form.{encode_core};
 ghost use Rattle.desugar.specs.Memory.{Lies};
-ghost use Rattle.desugar.specs.CoreBytes.{core_record, CoreShape, Put, Writable, CoreWritten};
+ghost use Rattle.desugar.specs.CoreBytes.{core_record, CoreShape, Put, Writable, CoreWritten, record_at, bytes_of_record};
+
+use expr::kind::Kind;
 
 // The most bytes of a record.
 const MAX_RECORD: usize = 7;
+
+// The bits of a map byte for the kind, the field and the value.
+const KIND_BIT: u8 = 1;
+
+const FIELD_BIT: u8 = 4;
+
+const VALUE_BIT: u8 = 32;
+
+// The lowest kind of an operator.
+const FIRST_OPERATOR: u32 = Kind::Union as u32;
+
+// A record of a core. Its kind stays the number that it is in work memory and in the bytes: a Kind would be made of each record and taken
+// apart again.
+#[derive(Clone, Copy, Debug, PartialEq, Eq)]
+pub(crate) struct CoreRecord {
+    pub kind: u32,
+    pub field: u32,
+    pub value: u32,
+}
 
 // 1 where a number is not zero, and so is written.
 fn standing(v: u32) -> u8
     ensures { result ≡ bit (stands v) }
 {
-    if v == 0 {
-        return 0;
-    }
-    1
+    u8::from(v != 0)
 }
 
-// The map byte of a record.
-fn map(kind: u32, field: u32, value: u32) -> u8
-    ensures { result ≡ map_of (core_record kind field value) }
-{
-    standing(kind) + 4 * standing(field) + 32 * standing(value)
-}
-
-// How many bytes a record takes.
-fn record_length(kind: u32, field: u32, value: u32) -> usize
-    ensures { result ≡ length (write_record (core_record kind field value)) }
-{
-    1 + standing(kind) as usize + 4 * standing(field) as usize + standing(value) as usize
-}
-
-// How many bytes the core of n records at `at` takes.
-pub(crate) fn core_length(work: &[u32], at: usize, n: usize) -> usize
-    requires { at + 3 * n ≤ length work.now }
-    ensures { (c : Core) → Lies work.now at n c → result ≡ length (encode_core c) }
-{
-    let mut total = 0;
-    let mut j = 0;
-    while j < n {
-        let here = at + 3 * j;
-        total += record_length(work[here], work[here + 1], work[here + 2]);
-        j += 1;
-    }
-    total
-}
-
-// A number of one byte, if it stands; the index behind it.
-fn write_byte(out: &mut [u8], to: usize, v: u32) -> usize
-    requires { to + length (write_number 1 v) ≤ length out.old }
-    ensures { Put (write_number 1 v) out.old to out.new result }
+// A number of N bytes, lowest first, if it stands; the index behind it.
+#[tactic(auto, using(crate::proofs::RecordBytes::number_length, crate::proofs::RecordBytes::number_step, crate::proofs::RecordBytes::number_end, crate::proofs::RecordBytes::number_some))]
+fn write_number<const N: usize>(out: &mut [u8], to: usize, v: u32) -> usize
+    requires { to + length (write_number N v) ≤ length out.old }
+    ensures { Put (write_number N v) out.old to out.new result }
 {
     if v == 0 {
         return to;
     }
-    out[to] = (v % 256) as u8;
-    to + 1
-}
-
-// A number of four bytes, if it stands; the index behind it.
-fn write_field(out: &mut [u8], to: usize, v: u32) -> usize
-    requires { to + length (write_number 4 v) ≤ length out.old }
-    ensures { Put (write_number 4 v) out.old to out.new result }
-{
-    if v == 0 {
-        return to;
+    let mut rest = v;
+    for i in 0..N {
+        out[to + i] = (rest % 256) as u8;
+        rest /= 256;
     }
-    let second = v / 256;
-    let third = second / 256;
-    out[to] = (v % 256) as u8;
-    out[to + 1] = (second % 256) as u8;
-    out[to + 2] = (third % 256) as u8;
-    out[to + 3] = (third / 256 % 256) as u8;
-    to + 4
+    to + N
 }
 
-// A number's byte where it stands, and else the one that is held.
-fn chosen(held: u8, v: u32) -> u8
-    ensures { result ≡ cond (stands v) (v % 256) held }
-{
-    if v == 0 {
-        return held;
-    }
-    (v % 256) as u8
-}
-
-// The same as write_byte where a byte follows, without a branch on the number: a test's value is 0 as often as not, and no processor
+// A number of one byte where a byte follows, without a branch on the number: a test's value is 0 as often as not, and no processor
 // foresees which.
 fn write_value(out: &mut [u8], to: usize, v: u32) -> usize
     requires { to < length out.old }
     ensures { Put (write_number 1 v) out.old to out.new result }
 {
     let held = out[to];
-    out[to] = chosen(held, v);
-    to + standing(v) as usize
+    out[to] = if v == 0 { held } else { (v % 256) as u8 };
+    to + usize::from(standing(v))
 }
 
-// The bytes of a record that has a kind and a field, where a byte follows; the index behind them.
-fn write_atom(out: &mut [u8], to: usize, kind: u32, field: u32, value: u32) -> usize
-    requires value_in_bounds { to + length (write_record (core_record kind field value)) < length out.old }
-    requires kind_nonzero { (0 < kind) × (0 < field) }
-    ensures { Put (write_record (core_record kind field value)) out.old to out.new result }
-{
-    out[to] = 5 + 32 * standing(value);
-    out[to + 1] = (kind % 256) as u8;
-    let end = write_field(&mut *out, to + 2, field);
-    write_value(out, end, value)
-}
-
-// A record's bytes; the index behind them.
-fn write_any(out: &mut [u8], to: usize, kind: u32, field: u32, value: u32) -> usize
-    requires { to + length (write_record (core_record kind field value)) ≤ length out.old }
-    ensures { Put (write_record (core_record kind field value)) out.old to out.new result }
-{
-    out[to] = map(kind, field, value);
-    let a = write_byte(&mut *out, to + 1, kind);
-    let b = write_field(&mut *out, a, field);
-    write_byte(out, b, value)
-}
-
-// The same where a byte follows: operators and atoms on a field, which are nearly all, go their own ways.
-fn write_record(out: &mut [u8], to: usize, kind: u32, field: u32, value: u32) -> usize
-    requires value_in_bounds { to + length (write_record (core_record kind field value)) < length out.old }
-    requires core_shape { CoreShape kind field value }
-    ensures { Put (write_record (core_record kind field value)) out.old to out.new result }
-{
-    if 7 <= kind {
-        out[to] = 1;
-        out[to + 1] = (kind % 256) as u8;
-        return to + 2;
+impl CoreRecord {
+    // The record at an index of work memory.
+    fn at(work: &[u32], at: usize) -> Self
+        requires { at + 3 ≤ length work.now }
+        ensures { result ≡ record_at work.now at }
+    {
+        CoreRecord {
+            kind: work[at],
+            field: work[at + 1],
+            value: work[at + 2],
+        }
     }
-    if 0 < field {
-        return write_atom(out, to, kind, field, value);
+
+    // The map byte.
+    fn map(self) -> u8
+        ensures { result ≡ map_of (core_record self.kind self.field self.value) }
+    {
+        KIND_BIT * standing(self.kind)
+            + FIELD_BIT * standing(self.field)
+            + VALUE_BIT * standing(self.value)
     }
-    write_any(out, to, kind, field, value)
+
+    // How many bytes the record takes.
+    fn length(self) -> usize
+        ensures { result ≡ length (bytes_of_record self) }
+    {
+        1 + usize::from(standing(self.kind))
+            + 4 * usize::from(standing(self.field))
+            + usize::from(standing(self.value))
+    }
+
+    // The bytes of a record that has a kind and a field, where a byte follows; the index behind them.
+    fn write_atom(self, out: &mut [u8], to: usize) -> usize
+        requires value_in_bounds { to + length (bytes_of_record self) < length out.old }
+        requires kind_nonzero { (0 < self.kind) × (0 < self.field) }
+        ensures { Put (bytes_of_record self) out.old to out.new result }
+    {
+        out[to] = KIND_BIT + FIELD_BIT + VALUE_BIT * standing(self.value);
+        out[to + 1] = (self.kind % 256) as u8;
+        let end = write_number::<4>(out, to + 2, self.field);
+        write_value(out, end, self.value)
+    }
+
+    // The record's bytes; the index behind them.
+    fn write_any(self, out: &mut [u8], to: usize) -> usize
+        requires { to + length (bytes_of_record self) ≤ length out.old }
+        ensures { Put (bytes_of_record self) out.old to out.new result }
+    {
+        out[to] = self.map();
+        let a = write_number::<1>(out, to + 1, self.kind);
+        let b = write_number::<4>(out, a, self.field);
+        write_number::<1>(out, b, self.value)
+    }
+
+    // The same where a byte follows: operators and atoms on a field, which are nearly all, go their own ways.
+    fn write(self, out: &mut [u8], to: usize) -> usize
+        requires value_in_bounds { to + length (bytes_of_record self) < length out.old }
+        requires core_shape { CoreShape self.kind self.field self.value }
+        ensures { Put (bytes_of_record self) out.old to out.new result }
+    {
+        if FIRST_OPERATOR <= self.kind {
+            out[to] = KIND_BIT;
+            out[to + 1] = (self.kind % 256) as u8;
+            return to + 2;
+        }
+        if 0 < self.field {
+            return self.write_atom(out, to);
+        }
+        self.write_any(out, to)
+    }
+}
+
+// How many bytes the core of n records at `at` takes.
+#[tactic(auto, using(crate::proofs::RecordBytes::records_short, crate::proofs::RecordBytes::record_short, crate::proofs::RecordBytes::length_next, crate::proofs::RecordBytes::lies_bytes))]
+pub(crate) fn core_length(work: &[u32], at: usize, n: usize) -> usize
+    requires { at + 3 * n ≤ length work.now }
+    ensures { (c : Core) → Lies work.now at n c → result ≡ length (encode_core c) }
+{
+    let mut total = 0;
+    for j in 0..n {
+        total += CoreRecord::at(work, at + 3 * j).length();
+    }
+    total
 }
 
 // Whether the bytes of the core of n records at `at` fit a room. They need not be counted where there is room for the longest records.
@@ -144,10 +156,7 @@ pub(crate) fn fits(work: &[u32], at: usize, n: usize, room: usize) -> bool
     requires { at + 3 * n ≤ length work.now }
     ensures { (c : Core) → Lies work.now at n c → result ≡ leb (length (encode_core c)) room }
 {
-    if MAX_RECORD * n <= room {
-        return true;
-    }
-    core_length(work, at, n) <= room
+    MAX_RECORD * n <= room || core_length(work, at, n) <= room
 }
 
 // The bytes of the core of n records at `at`, to the front of the buffer; how many they are.
@@ -157,12 +166,8 @@ pub(crate) fn write_core(work: &[u32], at: usize, n: usize, out: &mut [u8]) -> u
 {
     let last = n - 1;
     let mut to = 0;
-    let mut j = 0;
-    while j < last {
-        let here = at + 3 * j;
-        to = write_record(&mut *out, to, work[here], work[here + 1], work[here + 2]);
-        j += 1;
+    for j in 0..last {
+        to = CoreRecord::at(work, at + 3 * j).write(out, to);
     }
-    let end = at + 3 * last;
-    write_any(out, to, work[end], work[end + 1], work[end + 2])
+    CoreRecord::at(work, at + 3 * last).write_any(out, to)
 }

@@ -19,30 +19,38 @@ mod went;
 ghost use Rattle.std.specs.Prelude.{◌≡◌};
 ghost use Rattle.desugar.specs.Bindings.{compute_subrange, subrange_answer};
 
-// The part of an alias range that a range within it takes, in the fields of a packet.
-#[derive(Clone, Copy)]
-pub enum Subrange {
-    Fields(u32, u32),
-    Outside,
+// Fields of a packet, from `start` up to `end`.
+#[derive(Clone, Copy, Debug, PartialEq, Eq)]
+pub struct Fields {
+    pub start: u32,
+    pub end: u32,
 }
 
-// The fields of alias[sub_start..sub_end], where the alias has the fields from alias_start up to alias_end.
-pub fn compute_subrange(alias_start: u32, alias_end: u32, sub_start: u32, sub_end: u32) -> Subrange
+// The fields of alias[sub_start..sub_end], where the alias has the fields from alias_start up to alias_end, if they lie within it.
+pub fn compute_subrange(
+    alias_start: u32,
+    alias_end: u32,
+    sub_start: u32,
+    sub_end: u32,
+) -> Option<Fields>
     ensures { subrange_answer result ≡ compute_subrange alias_start alias_end sub_start sub_end }
 {
     let actual_start = alias_start as u64 + sub_start as u64;
     let actual_end = alias_start as u64 + sub_end as u64;
     if 0x1_0000_0000 <= actual_start {
-        return Subrange::Outside;
+        return None;
     }
     if 0x1_0000_0000 <= actual_end {
-        return Subrange::Outside;
+        return None;
     }
     if sub_end < sub_start {
-        return Subrange::Outside;
+        return None;
     }
     if (alias_end as u64) < actual_end {
-        return Subrange::Outside;
+        return None;
     }
-    Subrange::Fields(actual_start as u32, actual_end as u32)
+    Some(Fields {
+        start: actual_start as u32,
+        end: actual_end as u32,
+    })
 }

@@ -1,70 +1,42 @@
 // The core of a Wildcard: a test for each bit whose mask is false.
-ghost use Rattle.std.specs.Prelude.{◌≡◌, false, cond, ◌+◌, ◌*◌, ◌^◌, ◌≤◌, ◌<◌, length, get_or, take};
+ghost use Rattle.std.specs.Prelude.{◌≡◌};
 ghost use Rattle.std.proofs.lemmas.List.Edits.{sets};
-ghost use Rattle.literals.specs.Bits.{unpack};
+ghost use Rattle.literals.specs.Results.{literal_bits};
 ghost use Rattle.expr.specs.Terms.{Intersect, One};
 ghost use Rattle.desugar.specs.Leaves.{chain, masked_tests};
 ghost use Rattle.desugar.specs.Memory.{words};
 ghost use Rattle.desugar.specs.Costs.{chain_size, clear};
-ghost use Rattle.desugar.specs.LeafWords.{RangeRoom, Tested, stretch, trim};
+ghost use Rattle.desugar.specs.LeafWords.{RangeRoom, stretch, trim};
 
-// 1 where a bit of a mask is false.
-fn clear_at(mask: &[u8], bits: usize, i: usize) -> usize
-    ensures { result ≡ cond (get_or (take bits (unpack mask.now)) i false) 0 1 }
-{
-    if literals::literal_bit(mask, bits, i) {
-        return 0;
-    }
-    1
-}
+use crate::leaves::Chain;
+use crate::memory::{write_bare, write_bit};
+use expr::kind::Kind;
+use literals::BitSlice;
 
 // How many of a mask's bits are false.
-pub fn masked_count(mask: &[u8], bits: usize, width: usize) -> usize
-    ensures { result ≡ clear (stretch (take bits (unpack mask.now)) 0 width) }
+#[tactic(auto, using(crate::proofs::Masked::clear_one, crate::proofs::Masked::clear_none, crate::proofs::Masked::clear_most))]
+pub fn masked_count(mask: BitSlice<'_>, width: usize) -> usize
+    ensures { result ≡ clear (stretch (literal_bits mask.entry) 0 width) }
 {
     let mut count = 0;
-    let mut i = 0;
-    while i < width {
-        count += clear_at(mask, bits, i);
-        i += 1;
+    for i in 0..width {
+        if !mask.bit(i) {
+            count += 1;
+        }
     }
     count
 }
 
 // How many bits of a mask there are up to the highest that is false.
-fn trimmed(mask: &[u8], bits: usize, width: usize) -> usize
-    ensures { result ≡ trim (take bits (unpack mask.now)) width }
+fn trimmed(mask: BitSlice<'_>, width: usize) -> usize
+    ensures { result ≡ trim (literal_bits mask.entry) width }
 {
-    let mut end = width;
-    while 0 < end {
-        if !literals::literal_bit(mask, bits, end - 1) {
-            return end;
+    for i in (0..width).rev() {
+        if !mask.bit(i) {
+            return i + 1;
         }
-        end -= 1;
     }
     0
-}
-
-// An operator and the test of bit i, where the mask is false; the index behind them.
-fn write_tested(
-    work: &mut [u32],
-    at: usize,
-    start: u32,
-    address: &[u8],
-    address_bits: usize,
-    mask: &[u8],
-    mask_bits: usize,
-    i: usize,
-) -> usize
-    requires { (at + 6 * cond (get_or (take mask_bits (unpack mask.now)) i false) 0 1 ≤ length work.old) × («start» + i < 2 ^ 32) }
-    ensures { Tested «start» (take address_bits (unpack address.now)) (take mask_bits (unpack mask.now)) i work.old at work.new result }
-{
-    if literals::literal_bit(mask, mask_bits, i) {
-        return at;
-    }
-    let b = literals::literal_bit(address, address_bits, i);
-    crate::leaves::write_link(work, at, 8, 6, start + i as u32, b);
-    at + 6
 }
 
 // The chain of the tests of an address of `width` bits whose mask is false.
@@ -72,28 +44,28 @@ pub fn write_masked(
     work: &mut [u32],
     at: usize,
     start: u32,
-    address: &[u8],
-    address_bits: usize,
-    mask: &[u8],
-    mask_bits: usize,
+    address: BitSlice<'_>,
+    mask: BitSlice<'_>,
     width: usize,
 )
-    requires { RangeRoom work.old at (chain_size (clear (stretch (take mask_bits (unpack mask.now)) 0 width))) «start» width }
+    requires { RangeRoom work.old at (chain_size (clear (stretch (literal_bits mask) 0 width))) «start» width }
     ensures { work.new ≡ sets work.old at (words (chain Intersect One (masked_tests «start»
-        (stretch (take address_bits (unpack address.now)) 0 width) (stretch (take mask_bits (unpack mask.now)) 0 width)))) }
+        (stretch (literal_bits address.entry) 0 width) (stretch (literal_bits mask.entry) 0 width)))) }
 {
-    let end = trimmed(mask, mask_bits, width);
+    let end = trimmed(mask, width);
     if end == 0 {
-        crate::memory::write_record(work, at, 1, 0, 0);
+        write_bare(work, at, Kind::One);
         return;
     }
     let last = end - 1;
     let mut to = at;
-    let mut i = 0;
-    while i < last {
-        to = write_tested(work, to, start, address, address_bits, mask, mask_bits, i);
-        i += 1;
+    for i in 0..last {
+        if !mask.bit(i) {
+            let b = address.bit(i);
+            Chain::Tests.write_link(work, to, start + i as u32, b);
+            to += 6;
+        }
     }
-    let b = literals::literal_bit(address, address_bits, last);
-    crate::memory::write_record(work, to, 6, start + last as u32, crate::leaves::value(b));
+    let b = address.bit(last);
+    write_bit(work, to, Kind::Test, start + last as u32, b);
 }

@@ -1,7 +1,11 @@
 // Numbers and records of work memory.
 ghost use Rattle.std.specs.Prelude.{◌≡◌, List, [], ◌∷◌, ℕ, ◌+◌, ◌≤◌, length, get_or};
 ghost use Rattle.std.proofs.lemmas.List.Edits.{sets};
+ghost use Rattle.literals.specs.Bits.{bit};
+ghost use Rattle.expr.specs.Kinds.{kind_number};
 ghost use Rattle.desugar.specs.Memory.{Holds, Kept, CopyRoom};
+
+use expr::kind::Kind;
 
 // A number of the work memory, to be used as an offset.
 pub(crate) fn wide(x: u32) -> usize
@@ -10,7 +14,7 @@ pub(crate) fn wide(x: u32) -> usize
     x as usize
 }
 
-// A record of the core.
+// A record of the core. Its kind is a number, as it comes from the records of other cores.
 pub fn write_record(work: &mut [u32], at: usize, kind: u32, field: u32, value: u32)
     requires { at + 3 ≤ length work.old }
     ensures { work.new ≡ sets work.old at (kind ∷ field ∷ value ∷ []) }
@@ -20,6 +24,22 @@ pub fn write_record(work: &mut [u32], at: usize, kind: u32, field: u32, value: u
     work[at + 2] = value;
 }
 
+// A record without field and value: an operator, or an atom such as One.
+pub(crate) fn write_bare(work: &mut [u32], at: usize, kind: Kind)
+    requires { at + 3 ≤ length work.old }
+    ensures { work.new ≡ sets work.old at (kind_number kind ∷ 0 ∷ 0 ∷ []) }
+{
+    write_record(work, at, u32::from(kind.number()), 0, 0);
+}
+
+// The record of an assignment or a test of a bit.
+pub(crate) fn write_bit(work: &mut [u32], at: usize, kind: Kind, field: u32, b: bool)
+    requires { at + 3 ≤ length work.old }
+    ensures { work.new ≡ sets work.old at (kind_number kind ∷ field ∷ bit b ∷ []) }
+{
+    write_record(work, at, u32::from(kind.number()), field, u32::from(b));
+}
+
 // Copies the `count` numbers at `from` to `to`: down, where the two regions may overlap, or past their end.
 pub(crate) fn copy(work: &mut [u32], from: usize, to: usize, count: usize)
     requires { CopyRoom (length work.old) from to count }
@@ -27,9 +47,5 @@ pub(crate) fn copy(work: &mut [u32], from: usize, to: usize, count: usize)
     ensures copied { (ys : List ℕ) → length ys ≡ count → Holds work.old from ys → Holds work.new to ys }
     ensures beyond { (k : ℕ) → to + count ≤ k → get_or work.new k 0 ≡ get_or work.old k 0 }
 {
-    let mut i = 0;
-    while i < count {
-        work[to + i] = work[from + i];
-        i += 1;
-    }
+    work.copy_within(from..from + count, to);
 }

@@ -1,112 +1,102 @@
 // The bits of a bound that stand, counted byte by byte: a bound's size follows from them, and whether it is 0 or the highest value.
-ghost use Rattle.std.specs.Prelude.{◌≡◌, [], ◌∷◌, ◌++◌, ◌*◌, ◌/◌, ◌≤◌, get_or, take};
-ghost use Rattle.literals.specs.Bits.{Bits, bits_of, unpack};
+ghost use Rattle.std.specs.Prelude.{◌≡◌, ◌++◌, ◌+◌, ◌*◌, ◌/◌, ◌≤◌, ◌<◌, length, get_or};
+ghost use Rattle.literals.specs.Bits.{Bits, bit, bits_of};
+ghost use Rattle.literals.specs.Results.{literal_bits};
+ghost use Rattle.desugar.specs.Costs.{bound_size};
 ghost use Rattle.desugar.specs.LeafWords.{Stands, stretch};
 ghost use Rattle.desugar.specs.Rules.{max_range_bits};
 
+use literals::BitSlice;
+
 // How many bits stand, and how many records their terms have, each with an operator.
-#[derive(Clone, Copy)]
+#[derive(Clone, Copy, Debug, PartialEq, Eq)]
 pub struct Standing {
     pub count: u64,
     pub size: u64,
-}
-
-// Those of a byte. Bit i is in each of the 8 - i counts from c_i on, and its term has twice as many records.
-fn standing_byte(byte: u8) -> Standing
-    ensures { Stands (bits_of 8 byte) result }
-{
-    let x0 = byte as u64;
-    let x1 = x0 / 2;
-    let x2 = x1 / 2;
-    let x3 = x2 / 2;
-    let x4 = x3 / 2;
-    let x5 = x4 / 2;
-    let x6 = x5 / 2;
-    let x7 = x6 / 2;
-    let c0 = x0 % 2;
-    let c1 = c0 + x1 % 2;
-    let c2 = c1 + x2 % 2;
-    let c3 = c2 + x3 % 2;
-    let c4 = c3 + x4 % 2;
-    let c5 = c4 + x5 % 2;
-    let c6 = c5 + x6 % 2;
-    let count = c6 + x7 % 2;
-    let size = 2 * (c0 + c1 + c2 + c3 + c4 + c5 + c6 + count);
-    Standing { count, size }
-}
-
-// Those of some bits and of a byte above them.
-fn with_byte(below: Standing, byte: u8) -> Standing
-    requires { (below.count ≤ 128) × (below.size ≤ 32768) }
-    ensures { (a : Bits) → Stands a below → Stands (a ++ bits_of 8 byte) result }
-{
-    let above = standing_byte(byte);
-    Standing {
-        count: below.count + above.count,
-        size: below.size + 16 * below.count + above.size,
-    }
-}
-
-// Those of some bits and of one above them.
-fn with_bit(below: Standing, b: bool) -> Standing
-    requires { (below.count ≤ 128) × (below.size ≤ 32768) }
-    ensures { (a : Bits) → Stands a below → Stands (a ++ b ∷ []) result }
-{
-    let count = below.count + crate::leaves::value(b) as u64;
-    Standing {
-        count,
-        size: below.size + 2 * count,
-    }
 }
 
 // The byte at an index, and 0 beyond the end.
 fn byte_at(bytes: &[u8], i: usize) -> u8
     ensures { result ≡ get_or bytes.now i 0 }
 {
-    if bytes.len() <= i {
-        return 0;
-    }
-    bytes[i]
+    bytes.get(i).copied().unwrap_or(0)
 }
 
-// Those of the whole bytes of a literal.
-fn standing_bytes(bytes: &[u8], bits: usize) -> Standing
-    requires { bits ≤ max_range_bits }
-    ensures { Stands (stretch (take bits (unpack bytes.now)) 0 (8 * (bits / 8))) result }
-{
-    let whole = bits / 8;
-    let mut standing = Standing { count: 0, size: 0 };
-    let mut i = 0;
-    while i < whole {
-        standing = with_byte(standing, byte_at(bytes, i));
-        i += 1;
+impl Standing {
+    // Those of some bits and of one above them: the term of each that stands has two records for each bit from it up.
+    fn with_bit(self, b: bool) -> Self
+        requires { (self.count ≤ 256) × (self.size ≤ 65536) }
+        ensures { (result.count ≡ self.count + bit b) × (result.size ≡ self.size + 2 * (self.count + bit b)) }
+    {
+        let count = self.count + u64::from(b);
+        Standing {
+            count,
+            size: self.size + 2 * count,
+        }
     }
-    standing
-}
 
-// Those of a literal: behind its whole bytes bit by bit.
-fn standing_bits(bytes: &[u8], bits: usize) -> Standing
-    requires { bits ≤ max_range_bits }
-    ensures { Stands (stretch (take bits (unpack bytes.now)) 0 bits) result }
-{
-    let mut standing = standing_bytes(bytes, bits);
-    let mut p = 8 * (bits / 8);
-    while p < bits {
-        standing = with_bit(standing, literals::literal_bit(bytes, bits, p));
-        p += 1;
+    // Those of some bits and of a byte above them.
+    #[tactic(auto, using(crate::proofs::StandingBits::stands_bit, crate::proofs::StandingBits::byte_bit))]
+    fn with_byte(self, byte: u8) -> Self
+        requires { (self.count ≤ 128) × (self.size ≤ 32768) }
+        ensures { (a : Bits) → Stands a self → Stands (a ++ bits_of 8 byte) result }
+    {
+        let mut standing = self;
+        for i in 0..u8::BITS {
+            standing = standing.with_bit((byte >> i) % 2 == 1);
+        }
+        standing
     }
-    standing
-}
 
-// Those of a bound of `width` bits: a literal, and above it bits that are false.
-pub(crate) fn standing_padded(bytes: &[u8], bits: usize, width: usize) -> Standing
-    requires { (bits ≤ width) × (width ≤ max_range_bits) }
-    ensures { Stands (stretch (take bits (unpack bytes.now)) 0 width) result }
-{
-    let below = standing_bits(bytes, bits);
-    let above = (width - bits) as u64;
-    Standing {
-        count: below.count,
-        size: below.size + 2 * (above * below.count),
+    // Those of the whole bytes of a literal.
+    #[tactic(auto, using(crate::proofs::StandingBits::stands_few, crate::proofs::StandingBits::stretch_byte, crate::proofs::Chains::length_stretch))]
+    fn of_bytes(bits: BitSlice<'_>) -> Self
+        requires { bits.len ≤ max_range_bits }
+        ensures { Stands (stretch (literal_bits bits.entry) 0 (8 * (bits.entry.len / 8))) result }
+    {
+        let mut standing = Standing { count: 0, size: 0 };
+        for i in 0..bits.len / 8 {
+            standing = standing.with_byte(byte_at(bits.bytes, i));
+        }
+        standing
+    }
+
+    // Those of a literal: behind its whole bytes bit by bit.
+    fn of_literal(bits: BitSlice<'_>) -> Self
+        requires { bits.len ≤ max_range_bits }
+        ensures { Stands (stretch (literal_bits bits.entry) 0 bits.entry.len) result }
+    {
+        let mut standing = Standing::of_bytes(bits);
+        for p in 8 * (bits.len / 8)..bits.len {
+            standing = standing.with_bit(bits.bit(p));
+        }
+        standing
+    }
+
+    // Those of a bound of `width` bits: a literal, and above it bits that are false.
+    #[tactic(auto, using(crate::proofs::StandingBits::padded_few))]
+    pub(crate) fn of_bound(bits: BitSlice<'_>, width: usize) -> Self
+        requires { (bits.len ≤ width) × (width ≤ max_range_bits) }
+        ensures { Stands (stretch (literal_bits bits.entry) 0 width) result }
+    {
+        let below = Standing::of_literal(bits);
+        let above = (width - bits.len) as u64;
+        Standing {
+            count: below.count,
+            size: below.size + 2 * (above * below.count),
+        }
+    }
+
+    // How many records the core of a bound has whose bits these are: the terms of those that stand, or of the others.
+    #[tactic(auto, using(crate::proofs::StandingBits::both_all, crate::proofs::StandingBits::all_bits_are, crate::proofs::StandingBits::differences_most))]
+    pub(crate) fn bound_size(self, width: usize, upper: bool) -> u64
+        requires { ((a : Bits) × (length a ≡ width) × Stands a self) × (0 < width) × (width ≤ max_range_bits) }
+        ensures { (a : Bits) → length a ≡ width → Stands a self → result ≡ bound_size upper a }
+    {
+        let w = width as u64;
+        if upper {
+            return 2 * w - 1 + self.size;
+        }
+        2 * w - 1 + (w * (w + 1) - self.size)
     }
 }

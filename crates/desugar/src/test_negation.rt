@@ -1,7 +1,10 @@
 // Test negation of a core that lies in work memory: record by record where it has no Xor and no Difference; else is it a test, two passes
-// over it, and the result in its place.
+// over it, and the result in its place. Records, their kinds, notes and modes lie there as numbers, since C lends that memory.
 mod measured;
+mod modes;
 mod negated;
+mod notes;
+mod places;
 mod plain;
 mod tested;
 mod written;
@@ -9,54 +12,39 @@ mod written;
 ghost use Rattle.std.specs.Prelude.{◌⊎◌, ◌+◌, ◌*◌, ◌≤◌, length};
 ghost use Rattle.expr.specs.Terms.{Core};
 ghost use Rattle.desugar.specs.Memory.{Kept, Lies};
-ghost use Rattle.desugar.specs.NegationOutcome.{Layout, Negates};
+ghost use Rattle.desugar.specs.NegationOutcome.{Negates};
 
+pub use places::Places;
 pub use tested::is_test;
 
-// The size of the negation, or why there is none.
-#[derive(Clone, Copy)]
-pub enum Outcome {
-    Size(u32),
-    TooLarge,
+// Why there is no negation.
+#[derive(Clone, Copy, Debug, PartialEq, Eq)]
+pub enum NegationError {
     NotTest,
+    TooLarge,
 }
 
-// The negation of the core of n records at `at`, written to `to`, which may be its own place, one below it or one past its end, if it is a
-// test and the result has at most `limit` records. The regions from `notes` on are room for the passes.
-pub fn negation(
-    work: &mut [u32],
-    at: usize,
-    n: usize,
-    to: usize,
-    notes: usize,
-    modes: usize,
-    out: usize,
-    limit: usize,
-) -> Outcome
-    requires layout { Layout (length work.old) at n notes modes out limit × (to ≤ notes) × ((to ≤ at) ⊎ (at + 3 * n ≤ to)) }
-    requires lies { (c : Core) × Lies work.old at n c }
+// The size of the negation of the core at `p.at`, which is written to `to`: to its own place, below it, or past its end. The regions from
+// `p.notes` on are room for the passes.
+pub fn negation(work: &mut [u32], p: Places, to: usize) -> Result<usize, NegationError>
+    requires room { p.out + 3 * p.limit ≤ length work.old }
+    requires apart { (to ≤ p.notes) × ((to ≤ p.at) ⊎ (p.at + 3 * p.n ≤ to)) }
+    requires lies { (c : Core) × Lies work.old p.at p.n c }
     ensures kept { Kept to work.old work.new }
-    ensures negates { (c : Core) → Lies work.old at n c → Negates work.new c to limit result }
+    ensures negates { (c : Core) → Lies work.old p.at p.n c → Negates work.new c to p.limit result }
 {
-    if plain::is_plain(work, at, n) {
-        if limit < n {
-            return Outcome::TooLarge;
+    if plain::is_plain(work, p.at, p.n) {
+        if p.limit < p.n {
+            return Err(NegationError::TooLarge);
         }
-        plain::negate_plain(work, at, n, to);
-        return Outcome::Size(n as u32);
+        plain::negate_plain(work, p.at, p.n, to);
+        return Ok(p.n);
     }
-    let test = tested::is_test(work, at, n);
-    if !test {
-        return Outcome::NotTest;
+    if !tested::is_test(work, p.at, p.n) {
+        return Err(NegationError::NotTest);
     }
-    measured::measure(work, at, n, notes);
-    let negated = negated::negate(work, at, n, notes, modes, out, limit);
-    match negated {
-        negated::Negated::Size(size) => {
-            let count = crate::memory::wide(size);
-            crate::memory::copy(work, out, to, 3 * count);
-            Outcome::Size(size)
-        }
-        negated::Negated::TooLarge => Outcome::TooLarge,
-    }
+    measured::measure(work, p);
+    let size = negated::negate(work, p).ok_or(NegationError::TooLarge)?;
+    crate::memory::copy(work, p.out, to, 3 * size);
+    Ok(size)
 }

@@ -1,133 +1,101 @@
-// The walk over a term: recursion over its parts, each child's core on top of the stack.
+// The walk over a term: recursion over its parts, each child's core on top of the stack. The functions that take a record apart are inlined, so
+// that a level of the term is one frame of the machine's stack.
 ghost use Rattle.std.specs.Prelude.{◌≡◌, cond};
 ghost use Rattle.expr.specs.Terms.{Unary, Binary, TestNegation, IfThenElse, Let, LetBitRange};
+ghost use Rattle.expr.specs.Kinds.{kind_number};
 ghost use Rattle.desugar.specs.WalkWords.{Ready, ReadyOne, ReadyTwo, ReadyThree, ReadyElse, Operator1, Operator2, TermWalked, OneWalked, TwoWalked, ThreeWalked, ElseWalked};
 
+use crate::Fields;
 use crate::bindings::Bindings;
+use crate::test_negation::Places;
 use crate::went::Walked;
-use expr::records::HeadRead;
+use expr::kind::Kind;
+use refusals::Refused;
 
-// The core of the term that begins at the byte `at`, of at most `left` levels, whose first record has the index `place`: under the
-// bindings around it, above the `top` of the stack. It takes the whole bytes and an index, which is faster than a new slice for each call.
+// Where a walk stands: the byte and the record that are next, how many levels may follow, the bindings around it, the top of the stack, and the
+// allowance that is left.
+#[derive(Clone, Copy, Debug, PartialEq, Eq)]
+pub struct Spot {
+    pub at: usize,
+    pub place: usize,
+    pub left: usize,
+    pub env: Bindings,
+    pub top: usize,
+    pub allowance: usize,
+}
+
+// The core of the term that is next. It takes the whole bytes and an index, which is faster than a new slice for each call.
 #[cycle(walk)]
-pub(crate) fn desugar_with_env(
-    s: &[u8],
-    at: usize,
-    left: usize,
-    place: usize,
-    env: Bindings,
-    work: &mut [u32],
-    top: usize,
-    allowance: usize,
-) -> Walked
-    requires { Ready s.now at left place env.last top allowance work.old }
-    ensures { (q : Ready s.now at left place env.last top allowance work.old)
+pub(crate) fn desugar_with_env(s: &[u8], work: &mut [u32], spot: Spot) -> Result<Walked, Refused>
+    requires { Ready s.now spot.at spot.left spot.place spot.env.last spot.top spot.allowance work.old }
+    ensures { (q : Ready s.now spot.at spot.left spot.place spot.env.last spot.top spot.allowance work.old)
         → TermWalked q work.new result }
 {
-    let head = match expr::records::read_record(&s[at..]) {
-        HeadRead::Refused(number) => return Walked::Refused(number, place),
-        HeadRead::Found(head) => head,
-    };
+    let head = expr::records::read_record_at(s, spot.at, spot.place)?;
     let kind = head.kind;
-    let from = at + head.size;
+    let inner = Spot {
+        at: spot.at + head.size,
+        left: spot.left - 1,
+        ..spot
+    };
     match kind {
-        7..=12 => binary(kind, s, from, left - 1, place, env, work, top, allowance),
-        13..=15 => unary(kind, s, from, left - 1, place, env, work, top, allowance),
-        16 => test_negation(s, from, left - 1, place, env, work, top, allowance),
-        17 => if_then_else(s, from, left - 1, place, env, work, top, allowance),
-        18 => let_variable(
-            head.name,
-            s,
-            from,
-            left - 1,
-            place,
-            env,
-            work,
-            top,
-            allowance,
-        ),
-        19 => let_bit_range(
-            head.name,
-            head.start,
-            head.end,
-            s,
-            from,
-            left - 1,
-            place,
-            env,
-            work,
-            top,
-            allowance,
-        ),
-        0..=6 | 20..=26 => crate::leaf::leaf(
-            head,
-            from,
-            &s[at..],
-            place,
-            env,
-            work,
-            top,
-            allowance,
-        ),
-        // Not reached: form has refused a kind above 26.
-        _ => Walked::Refused(2, place),
+        Kind::Union
+        | Kind::Intersect
+        | Kind::Xor
+        | Kind::Difference
+        | Kind::Sequence
+        | Kind::LtlUntil => binary(kind, s, work, inner),
+        Kind::Complement | Kind::Star | Kind::LtlNext => unary(kind, s, work, inner),
+        Kind::TestNegation => test_negation(s, work, inner),
+        Kind::IfThenElse => if_then_else(s, work, inner),
+        Kind::Let => let_variable(head.name, s, work, inner),
+        Kind::LetBitRange => {
+            let fields = Fields {
+                start: head.start,
+                end: head.end,
+            };
+            let_bit_range(head.name, fields, s, work, inner)
+        }
+        _ => crate::leaf::leaf(head, &s[spot.at..], work, inner),
     }
 }
 
 // Complement, Star, LtlNext: the record goes right below its operand, wherever that lies.
 #[cycle(walk)]
-fn unary(
-    kind: u8,
-    s: &[u8],
-    from: usize,
-    left: usize,
-    place: usize,
-    env: Bindings,
-    work: &mut [u32],
-    top: usize,
-    allowance: usize,
-) -> Walked
-    requires { Operator1 kind × ReadyOne s.now from left place env.last top allowance work.old }
-    ensures { (k : Operator1 kind) (q : ReadyOne s.now from left place env.last top allowance work.old)
+fn unary(kind: Kind, s: &[u8], work: &mut [u32], spot: Spot) -> Result<Walked, Refused>
+    requires { Operator1 (kind_number kind) × ReadyOne s.now spot.at spot.left spot.place spot.env.last spot.top spot.allowance work.old }
+    ensures { (k : Operator1 (kind_number kind)) (q : ReadyOne s.now spot.at spot.left spot.place spot.env.last spot.top spot.allowance work.old)
         → OneWalked q (Unary k.o) work.new result }
 {
-    let a = match desugar_with_env(
+    let a = desugar_with_env(
         s,
-        from,
-        left,
-        place + 1,
-        env,
         &mut *work,
-        top + 3,
-        allowance,
-    ) {
-        Walked::Refused(number, at) => return Walked::Refused(number, at),
-        Walked::Done(a) => a,
-    };
-    crate::went::seal(kind, place, work, a)
+        Spot {
+            place: spot.place + 1,
+            top: spot.top + 3,
+            ..spot
+        },
+    )?;
+    crate::went::seal(kind, spot.place, work, a)
 }
 
 // TestNegation.
 #[cycle(walk)]
-fn test_negation(
-    s: &[u8],
-    from: usize,
-    left: usize,
-    place: usize,
-    env: Bindings,
-    work: &mut [u32],
-    top: usize,
-    allowance: usize,
-) -> Walked
-    requires { ReadyOne s.now from left place env.last top allowance work.old }
-    ensures { (q : ReadyOne s.now from left place env.last top allowance work.old)
+#[inline(always)]
+fn test_negation(s: &[u8], work: &mut [u32], spot: Spot) -> Result<Walked, Refused>
+    requires { ReadyOne s.now spot.at spot.left spot.place spot.env.last spot.top spot.allowance work.old }
+    ensures { (q : ReadyOne s.now spot.at spot.left spot.place spot.env.last spot.top spot.allowance work.old)
         → OneWalked q TestNegation work.new result }
 {
-    let a = match desugar_with_env(s, from, left, place + 1, env, &mut *work, top, allowance) {
-        Walked::Refused(number, at) => return Walked::Refused(number, at),
-        Walked::Done(a) => a,
-    };
-    crate::went::negate_core(place, work, a)
+    let a = desugar_with_env(
+        s,
+        &mut *work,
+        Spot {
+            place: spot.place + 1,
+            ..spot
+        },
+    )?;
+    crate::went::negate_core(spot.place, work, a)
 }
 
 // Where the second operand's core goes: behind the first, or in its place.
@@ -142,175 +110,169 @@ fn second_at(dropped: bool, top: usize, end: usize) -> usize
 
 // The operators with two operands. Where a Sequence drops its first operand, the second takes its place.
 #[cycle(walk)]
-fn binary(
-    kind: u8,
-    s: &[u8],
-    from: usize,
-    left: usize,
-    place: usize,
-    env: Bindings,
-    work: &mut [u32],
-    top: usize,
-    allowance: usize,
-) -> Walked
-    requires { Operator2 kind × ReadyTwo s.now from left place env.last top allowance work.old }
-    ensures { (k : Operator2 kind) (q : ReadyTwo s.now from left place env.last top allowance work.old)
+#[inline(always)]
+fn binary(kind: Kind, s: &[u8], work: &mut [u32], spot: Spot) -> Result<Walked, Refused>
+    requires { Operator2 (kind_number kind) × ReadyTwo s.now spot.at spot.left spot.place spot.env.last spot.top spot.allowance work.old }
+    ensures { (k : Operator2 (kind_number kind)) (q : ReadyTwo s.now spot.at spot.left spot.place spot.env.last spot.top spot.allowance work.old)
         → TwoWalked q (Binary k.o) work.new result }
 {
-    let a = match desugar_with_env(
+    let a = desugar_with_env(
         s,
-        from,
-        left,
-        place + 1,
-        env,
         &mut *work,
-        top + 3,
-        allowance,
-    ) {
-        Walked::Refused(number, at) => return Walked::Refused(number, at),
-        Walked::Done(a) => a,
-    };
-    let at = top + 3;
+        Spot {
+            place: spot.place + 1,
+            top: spot.top + 3,
+            ..spot
+        },
+    )?;
+    let at = spot.top + 3;
     crate::went::settle(&mut *work, a.at, at, a.count);
     let dropped = crate::went::drops(kind, work, at, a.count);
-    let to = second_at(dropped, top, at + 3 * a.count);
-    let b = match desugar_with_env(s, a.used, left, a.next, env, &mut *work, to, a.left) {
-        Walked::Refused(number, at) => return Walked::Refused(number, at),
-        Walked::Done(b) => b,
-    };
+    let to = second_at(dropped, spot.top, at + 3 * a.count);
+    let b = desugar_with_env(
+        s,
+        &mut *work,
+        Spot {
+            at: a.used,
+            place: a.next,
+            top: to,
+            allowance: a.left,
+            ..spot
+        },
+    )?;
     if dropped {
-        return Walked::Done(b);
+        return Ok(b);
     }
-    crate::went::join(kind, place, work, top, a.count, b)
+    crate::went::join(kind, spot.place, work, spot.top, a.count, b)
 }
 
 // IfThenElse: its condition and its first branch. Room for two records is left below the condition.
 #[cycle(walk)]
-fn if_then_else(
-    s: &[u8],
-    from: usize,
-    left: usize,
-    place: usize,
-    env: Bindings,
-    work: &mut [u32],
-    top: usize,
-    allowance: usize,
-) -> Walked
-    requires { ReadyThree s.now from left place env.last top allowance work.old }
-    ensures { (q : ReadyThree s.now from left place env.last top allowance work.old)
+#[inline(always)]
+fn if_then_else(s: &[u8], work: &mut [u32], spot: Spot) -> Result<Walked, Refused>
+    requires { ReadyThree s.now spot.at spot.left spot.place spot.env.last spot.top spot.allowance work.old }
+    ensures { (q : ReadyThree s.now spot.at spot.left spot.place spot.env.last spot.top spot.allowance work.old)
         → ThreeWalked q IfThenElse work.new result }
 {
-    let c = match desugar_with_env(
+    let c = desugar_with_env(
         s,
-        from,
-        left,
-        place + 1,
-        env,
         &mut *work,
-        top + 6,
-        allowance,
-    ) {
-        Walked::Refused(number, at) => return Walked::Refused(number, at),
-        Walked::Done(c) => c,
-    };
-    let at = top + 6;
+        Spot {
+            place: spot.place + 1,
+            top: spot.top + 6,
+            ..spot
+        },
+    )?;
+    let at = spot.top + 6;
     crate::went::settle(&mut *work, c.at, at, c.count);
     let end = at + 3 * c.count;
-    let t = match desugar_with_env(s, c.used, left, c.next, env, &mut *work, end, c.left) {
-        Walked::Refused(number, at) => return Walked::Refused(number, at),
-        Walked::Done(t) => t,
-    };
+    let t = desugar_with_env(
+        s,
+        &mut *work,
+        Spot {
+            at: c.used,
+            place: c.next,
+            top: end,
+            allowance: c.left,
+            ..spot
+        },
+    )?;
     crate::went::settle(&mut *work, t.at, end, t.count);
-    otherwise(
-        s, t.used, left, place, t.next, env, work, top, c.count, t.count, t.left,
-    )
+    let other = Spot {
+        at: t.used,
+        place: t.next,
+        allowance: t.left,
+        ..spot
+    };
+    otherwise(s, work, other, spot.place, c.count, t.count)
 }
 
-// IfThenElse: the negation of its condition, which has n records, and its other branch; the first branch has m.
+// IfThenElse, whose record has the index `place`: the negation of its condition, which has n records, and its other branch, which is next; the
+// first branch has m.
 #[cycle(walk)]
+#[inline(always)]
 fn otherwise(
     s: &[u8],
-    from: usize,
-    left: usize,
-    place: usize,
-    next: usize,
-    env: Bindings,
     work: &mut [u32],
-    top: usize,
+    spot: Spot,
+    place: usize,
     n: usize,
     m: usize,
-    allowance: usize,
-) -> Walked
-    requires { ReadyElse s.now from left next env.last work.old top n m allowance }
-    ensures { (q : ReadyElse s.now from left next env.last work.old top n m allowance)
+) -> Result<Walked, Refused>
+    requires { ReadyElse s.now spot.at spot.left spot.place spot.env.last work.old spot.top n m spot.allowance }
+    ensures { (q : ReadyElse s.now spot.at spot.left spot.place spot.env.last work.old spot.top n m spot.allowance)
         → ElseWalked q place work.new result }
 {
-    let to = top + 9 + 3 * n + 3 * m;
+    let to = spot.top + 9 + 3 * n + 3 * m;
     let modes = to + n;
-    let outcome = crate::test_negation::negation(
-        &mut *work,
-        top + 6,
+    let places = Places {
+        at: spot.top + 6,
         n,
-        to,
-        to,
+        notes: to,
         modes,
-        modes + n,
-        allowance,
-    );
-    let above = to + 3 * crate::went::negated_size(outcome);
-    let e = match desugar_with_env(s, from, left, next, env, &mut *work, above, allowance) {
-        Walked::Refused(number, at) => return Walked::Refused(number, at),
-        Walked::Done(e) => e,
+        out: modes + n,
+        limit: spot.allowance,
     };
-    crate::went::choose(place, work, top, n, m, outcome, e)
+    let outcome = crate::test_negation::negation(&mut *work, places, to);
+    let above = to + 3 * crate::went::negated_size(outcome);
+    let e = desugar_with_env(s, &mut *work, Spot { top: above, ..spot })?;
+    crate::went::choose(place, work, spot.top, n, m, outcome, e)
 }
 
 // Let: the definition's core stays below its frame while the body is worked out.
 #[cycle(walk)]
-fn let_variable(
-    name: u32,
-    s: &[u8],
-    from: usize,
-    left: usize,
-    place: usize,
-    env: Bindings,
-    work: &mut [u32],
-    top: usize,
-    allowance: usize,
-) -> Walked
-    requires { ReadyTwo s.now from left place env.last top allowance work.old }
-    ensures { (q : ReadyTwo s.now from left place env.last top allowance work.old)
+#[inline(always)]
+fn let_variable(name: u32, s: &[u8], work: &mut [u32], spot: Spot) -> Result<Walked, Refused>
+    requires { ReadyTwo s.now spot.at spot.left spot.place spot.env.last spot.top spot.allowance work.old }
+    ensures { (q : ReadyTwo s.now spot.at spot.left spot.place spot.env.last spot.top spot.allowance work.old)
         → TwoWalked q (Let name) work.new result }
 {
-    let d = match desugar_with_env(s, from, left, place + 1, env, &mut *work, top, allowance) {
-        Walked::Refused(number, at) => return Walked::Refused(number, at),
-        Walked::Done(d) => d,
+    let d = desugar_with_env(
+        s,
+        &mut *work,
+        Spot {
+            place: spot.place + 1,
+            ..spot
+        },
+    )?;
+    crate::went::settle(&mut *work, d.at, spot.top, d.count);
+    let end = spot.top + 3 * d.count;
+    let inner = spot
+        .env
+        .with_variable(&mut *work, end, name, spot.top, d.count);
+    let body = Spot {
+        at: d.used,
+        place: d.next,
+        left: spot.left,
+        env: inner,
+        top: end + 5,
+        allowance: d.left,
     };
-    crate::went::settle(&mut *work, d.at, top, d.count);
-    let end = top + 3 * d.count;
-    let inner = env.with_variable(&mut *work, end, name, top, d.count);
-    desugar_with_env(s, d.used, left, d.next, inner, work, end + 5, d.left)
+    desugar_with_env(s, work, body)
 }
 
 // LetBitRange.
 #[cycle(walk)]
+#[inline(always)]
 fn let_bit_range(
     name: u32,
-    start: u32,
-    end: u32,
+    fields: Fields,
     s: &[u8],
-    from: usize,
-    left: usize,
-    place: usize,
-    env: Bindings,
     work: &mut [u32],
-    top: usize,
-    allowance: usize,
-) -> Walked
-    requires { ReadyOne s.now from left place env.last top allowance work.old }
-    ensures { (q : ReadyOne s.now from left place env.last top allowance work.old)
-        → OneWalked q (LetBitRange name start end) work.new result }
+    spot: Spot,
+) -> Result<Walked, Refused>
+    requires { ReadyOne s.now spot.at spot.left spot.place spot.env.last spot.top spot.allowance work.old }
+    ensures { (q : ReadyOne s.now spot.at spot.left spot.place spot.env.last spot.top spot.allowance work.old)
+        → OneWalked q (LetBitRange name fields.start fields.end) work.new result }
 {
-    let inner = env.with_alias(&mut *work, top, name, start, end);
-    desugar_with_env(s, from, left, place + 1, inner, work, top + 5, allowance)
+    let inner = spot
+        .env
+        .with_alias(&mut *work, spot.top, name, fields.start, fields.end);
+    let body = Spot {
+        place: spot.place + 1,
+        env: inner,
+        top: spot.top + 5,
+        ..spot
+    };
+    desugar_with_env(s, work, body)
 }

@@ -6,6 +6,8 @@ use Prim.Native.Nat.{ℕ, suc}
 use native.Mathlib.Omega.{arith}
 use lib.Dec.{leb, eqb}
 use lib.ListN.{length, drop, length-drop}
+use Rattle.std.specs.Prelude.{Ok}
+use Rattle.expr.specs.Kinds.{kind_number}
 use Rattle.literals.specs.Bits.{bit_at, number_of}
 use Rattle.literals.specs.Reading.{got, nonzero}
 use Rattle.literals.proofs.Logic.{or_right}
@@ -13,10 +15,8 @@ use Rattle.literals.proofs.Codec.{IfGot, if_got, got_bind, got_ask}
 use Rattle.expr.specs.Records.{is_match}
 use Rattle.expr.specs.Form.{plain_record}
 use Rattle.expr.specs.Results.{none_foreign, read_kind, KindFound, BareHead, RecordFound}
-use Rattle.expr.specs.declared.records.Kind.{Kind}
-use Rattle.expr.specs.declared.records.KindRead.TheVariants as kind
+use Rattle.expr.specs.declared.records.Opened.{Opened}
 use Rattle.expr.specs.declared.records.Head.{Head}
-use Rattle.expr.specs.declared.records.HeadRead.TheVariants as head
 use Rattle.expr.proofs.Steps.{onward, Tested}
 use Rattle.expr.proofs.Stages.{after_kind, record_stages}
 
@@ -42,18 +42,18 @@ bare_size (m ∷ bs) =
     got_bind (OneByte bs m) _ (Tested (bit_at 0 m) (λ k. leb k 26) 2 bs) _ (kind_byte m (bit_at 0 m) bs refl)
     (λ k rest h. got_ask _ (none_foreign k m) 3 _ rest (λ _ e. ap suc (h e)))
 
-module _ (s : List ℕ) {k : Kind} (f : KindFound s (kind.Found k)) (e : k.map ≡ 1) where
+module _ (s : List ℕ) {k : Opened} (f : KindFound s (Ok k)) (e : k.map ≡ 1) where
   long : length s ≡ suc (suc (length (drop k.next s)))
   long = if_got (λ p rest. p.0 ≡ 1 → length s ≡ suc (suc (length rest))) (read_kind s) (bare_size s) (sym f.answer) e
 
   -- the head of a kind alone is the record's
-  pub bare_found : {h : Head} → BareHead k.kind h → RecordFound s (head.Found h)
+  pub bare_found : {h : Head} → BareHead (kind_number k.kind) h → RecordFound s (Ok h)
   bare_found {h} b =
       let next : h.size ≡ k.next = omega (arith, b.size, long, length-drop k.next s, f.inside.1) in
       record {
         answer =
             (λ i. got (b.same s i) (drop (next i) s))
-            ∙ onward _ f.answer (bare_is k.kind (drop k.next s) ∙ ap (λ m. after_kind m k.kind (drop k.next s)) (sym e))
+            ∙ onward _ f.answer (bare_is (kind_number k.kind) (drop k.next s) ∙ ap (λ m. after_kind m (kind_number k.kind) (drop k.next s)) (sym e))
             ∙ sym (record_stages s);
         inside = b.inside s (omega (arith, long));
       }

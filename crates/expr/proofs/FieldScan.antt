@@ -1,13 +1,14 @@
 -- The scan for the field count: the highest of what the records need by themselves, or 25 at the first that needs too many.
 use mathlib.Core.Path.{◌≡◌, refl, sym, ap, ◌∙◌}
 use mathlib.Core.Bool.{Bool, true, false, cond}
-use mathlib.Core.Option.{Option, none, some}
 use mathlib.Core.List.{List, [], ◌∷◌, ◌++◌}
 use Prim.Native.Nat.{ℕ, ◌+◌, ◌^◌, ◌≤◌, max}
 use native.Mathlib.Nat.{max-zero}
 use native.Mathlib.Omega.{arith}
 use lib.Dec.{ltb}
 use lib.ListN.{length}
+use Rattle.std.specs.Prelude.{Option, Some, None}
+use Rattle.expr.specs.Kinds.{kind_number}
 use Rattle.expr.specs.Answers.{Answer, ok, refuse, and_then, map_answer, need}
 use Rattle.expr.specs.Terms.{Zero, One, Top, Dup, End, Assign, Test, Complement, Star, LtlNext, Union, Intersect, Xor, Difference, Sequence, LtlUntil, Direct, Alias, Assigns, Tests, Matches, Expr, Plain, Unary, Binary, TestNegation, IfThenElse, Let, LetBitRange, Var, Ranged, records}
 use Rattle.expr.specs.Records.{Record}
@@ -27,8 +28,8 @@ fields_all (e ∷ es) at m = and_then (num_fields e at) λ n. fields_all es (at 
 
 -- go on with the fields that a record needs by itself
 abbrev pub counted : Option ℕ → ℕ → (ℕ → Answer ℕ) → Answer ℕ
-counted none at f = refuse 25 at
-counted (some n) at f = f n
+counted None at f = refuse 25 at
+counted (Some n) at f = f n
 
 abbrev pub record_fields : Record → Option ℕ
 record_fields h = own_fields h.kind h.start h.end
@@ -54,7 +55,7 @@ from es p q i = fields_all es (p i) (q i)
 
 -- an Assign or a Test of the field f
 field_own : (b : Bool) (f at : ℕ) (g : ℕ → Answer ℕ)
-    → and_then (and_then (need b 25 at) λ _. ok (f + 1)) g ≡ counted (cond b (some (f + 1)) none) at g
+    → and_then (and_then (need b 25 at) λ _. ok (f + 1)) g ≡ counted (cond b (Some (f + 1)) None) at g
 field_own true f at g = refl
 field_own false f at g = refl
 
@@ -138,16 +139,16 @@ module _ {s : List ℕ} {at place count : ℕ} (l : FieldsLeft s at place count)
 
   module _ {h : Head} (u : Step s at l.terms h) where
     -- what the record needs by itself says of the answer
-    by_fields : {o : Option ℕ} → o ≡ own_fields h.kind h.start h.end → (e : Expr) → decode s ≡ ok e
+    by_fields : {o : Option ℕ} → o ≡ own_fields (kind_number h.kind) h.start h.end → (e : Expr) → decode s ≡ ok e
         → num_fields e 0 ≡ counted o place (λ n. fields_all (kids u.first ++ u.others) (place + 1) (max count n))
     by_fields k e d =
         l.answer e d ∙ ap (λ es. fields_all es place count) u.are ∙ fields_own u.first u.others place count
         ∙ ap (λ o. counted o place (λ n. fields_all (kids u.first ++ u.others) (place + 1) (max count n))) (sym (k ∙ ap record_fields u.own_is))
 
-    pub fields_over : none ≡ own_fields h.kind h.start h.end → (e : Expr) → decode s ≡ ok e → refuse 25 place ≡ num_fields e 0
+    pub fields_over : None ≡ own_fields (kind_number h.kind) h.start h.end → (e : Expr) → decode s ≡ ok e → refuse 25 place ≡ num_fields e 0
     fields_over k e d = sym (by_fields k e d)
 
-    pub fields_step : {n more : ℕ} → some n ≡ own_fields h.kind h.start h.end → more ≡ max count n
+    pub fields_step : {n more : ℕ} → Some n ≡ own_fields (kind_number h.kind) h.start h.end → more ≡ max count n
         → FieldsLeft s (at + h.size) (place + 1) more
     fields_step k m =
         record {

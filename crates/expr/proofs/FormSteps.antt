@@ -7,20 +7,21 @@ use native.Mathlib.Numerals.{sub-one}
 use lib.ListN.{length, drop, length-drop}
 use lib.Seq.{drop-drop}
 use borrow.Author.Tests.{lt-ltb, le-ltb}
+use Rattle.std.specs.Prelude.{Result, Ok, Err}
+use Rattle.refusals.specs.Refusals.{number_of}
+use Rattle.refusals.specs.declared.Refusal.{Refusal}
+use Rattle.refusals.specs.declared.Refused.{Refused}
+use Rattle.expr.specs.Kinds.{kind_number}
 use Rattle.expr.specs.Answers.{Answer, ok, refuse, and_then, map_answer}
 use Rattle.expr.specs.Terms.{records}
 use Rattle.expr.specs.Records.{read_record}
 use Rattle.expr.specs.Form.{max_records, max_depth, Node, node0, node1, node2, node3, node_of, Parsed, children, node_at, parse, whole_term, decode}
-use Rattle.expr.specs.Results.{record_of, head_answer, RecordFound, tree_answer, tree_from, trees_from, TreeFormed, child_count, arity_of, TreesAsked, shape_of}
+use Rattle.expr.specs.Results.{record_of, head_answer, RecordFound, RecordFoundAt, tree_answer, tree_from, trees_from, TreeFormed, child_count, arity_of, TreesAsked, shape_of}
 use Rattle.expr.specs.declared.records.Head.{Head}
-use Rattle.expr.specs.declared.records.HeadRead.{HeadRead}
-use Rattle.expr.specs.declared.records.HeadRead.TheVariants as head
 use Rattle.expr.specs.declared.form.Taken.{Taken}
-use Rattle.expr.specs.declared.form.Formed.{Formed}
-use Rattle.expr.specs.declared.form.Formed.TheVariants.{Good, Refused}
 use Rattle.expr.proofs.Arities.{arity_is}
 use Rattle.expr.proofs.TermForm.{parse_only}
-use Rattle.expr.proofs.Slices.{Sliced, bytes_each, part, part_is}
+use Rattle.expr.proofs.Slices.{Sliced, bytes_each}
 
 -- ## One record
 
@@ -58,41 +59,32 @@ children_left d (node3 f) at s =
     left_then (parse d a.next a.rest) _ _ (λ b.
     left_then (parse d b.next b.rest) _ _ (λ c. refl)))
 
--- a record was looked for, from the byte a on
-pub record Looked (d at a : ℕ) (s : List ℕ) (x : HeadRead) : Type 0 where
-  pub deep : d ≡ 0 → ⊥
-  pub low : at < max_records
-  pub start : a ≤ length s
-  pub found : RecordFound (part a s) x
-
-module _ {d at a : ℕ} {s : List ℕ} {x : HeadRead} (k : Looked d at a s x) where
-  -- what the call on the part says, of the rest of the bytes
-  read : {y : HeadRead} → x ≡ y → RecordFound (drop a s) y
-  read e = subst (RecordFound _) e (subst (λ (l : List ℕ). RecordFound l x) (part_is a s) k.found)
-
+-- the record of a tree from the byte a on was looked for, within the limits
+module _ {d at a : ℕ} (s : List ℕ) (deep : d ≡ 0 → ⊥) (low : at < max_records) (start : a ≤ length s) where
   -- what was found is what the tree begins with
-  begins : {y : HeadRead} → x ≡ y → map_answer left (node_at (parse (d - 1)) at (head_answer (drop a s) y)) ≡ tree_from d at (drop a s)
-  begins e = ap (λ z. map_answer left (node_at (parse (d - 1)) at z)) (read e).answer ∙ sym (tree_step d at (drop a s) k.deep k.low)
+  begins : {y : Result Head Refusal} → RecordFound (drop a s) y → map_answer left (node_at (parse (d - 1)) at (head_answer (drop a s) y)) ≡ tree_from d at (drop a s)
+  begins f = ap (λ z. map_answer left (node_at (parse (d - 1)) at z)) f.answer ∙ sym (tree_step d at (drop a s) deep low)
 
-  pub record_refused : {r : ℕ} → x ≡ head.Refused r → TreeFormed (tree_from d at (drop a s)) s (Refused r at)
-  record_refused e = record { answer = begins e; inside = omega (arith, (read e).inside) }
+  pub record_refused : {e : Refused} → RecordFoundAt s a at (Err e) → TreeFormed (tree_from d at (drop a s)) s (Err e)
+  record_refused {e} f =
+      record { answer = ap (refuse (number_of e.refusal)) f.1 ∙ begins f.0; inside = omega (arith, f.0.inside) }
 
-  pub record_inside : {h : Head} → x ≡ head.Found h → a + h.size ≤ length s
-  record_inside e = omega (arith, (read e).inside.1, length-drop a s, k.start)
+  pub record_inside : {h : Head} → RecordFoundAt s a at (Ok h) → a + h.size ≤ length s
+  record_inside f = omega (arith, f.inside.1, length-drop a s, start)
 
   -- the answer on the children is the answer on the tree
-  pub record_good : {h : Head} {n : ℕ} {y : Formed} → x ≡ head.Found h → n ≡ arity_of h.kind
+  pub record_good : {h : Head} {n : ℕ} {y : Result Taken Refused} → RecordFoundAt s a at (Ok h) → n ≡ arity_of (kind_number h.kind)
       → TreeFormed (trees_from (d - 1) n (at + 1) (drop (a + h.size) s)) s y → TreeFormed (tree_from d at (drop a s)) s y
-  record_good {h} {n} {y} e m f =
+  record_good {h} {n} {y} f m t =
       let found = record_of (drop a s) h in
       subst (λ z. TreeFormed z s y)
       ((λ i. trees_from (d - 1) ((m ∙ sym (arity_is found)) i) (at + 1) (sym (drop-drop h.size a s) i))
-      ∙ sym (children_left (d - 1) (node_of found) (at + 1) (drop h.size (drop a s))) ∙ begins e)
-      f
+      ∙ sym (children_left (d - 1) (node_of found) (at + 1) (drop h.size (drop a s))) ∙ begins f)
+      t
 
 -- ## One tree of several
 
-no_tree : (d : ℕ) {n at a : ℕ} {s : List ℕ} → n ≡ 0 → TreesAsked n a at s → TreeFormed (trees_from d n at (drop a s)) s (Good (record { used = a; next = at }))
+no_tree : (d : ℕ) {n at a : ℕ} {s : List ℕ} → n ≡ 0 → TreesAsked n a at s → TreeFormed (trees_from d n at (drop a s)) s (Ok (record { used = a; next = at }))
 no_tree d {n = zero} e k = record { answer = refl; inside = (k.start, k.low) }
 no_tree d {n = suc n} e k = absurd (omega arith)
 
@@ -104,43 +96,40 @@ trees_step d (suc n) at bs f = rw (sub-one (suc n))
 -- of n trees from the byte a and the record at on, m are due, from the byte u and the record next on: what comes of those is what comes of all
 pub record Due (d n at a m next u : ℕ) (s : List ℕ) : Type 0 where
   pub asked : TreesAsked m u next s
-  pub whole : (y : Formed) → TreeFormed (trees_from d m next (drop u s)) s y → TreeFormed (trees_from d n at (drop a s)) s y
+  pub whole : (y : Result Taken Refused) → TreeFormed (trees_from d m next (drop u s)) s y → TreeFormed (trees_from d n at (drop a s)) s y
 
 pub all_due : {d n at a : ℕ} {s : List ℕ} → TreesAsked n a at s → Due d n at a n at a s
 all_due k = record { asked = k; whole = λ y h. h }
 
 module _ {d n at a m next u : ℕ} {s : List ℕ} (k : Due d n at a m next u s) where
-  pub none_due : m ≤ 0 → TreeFormed (trees_from d n at (drop a s)) s (Good (record { used = u; next = next }))
+  pub none_due : m ≤ 0 → TreeFormed (trees_from d n at (drop a s)) s (Ok (record { used = u; next = next }))
   none_due none = k.whole _ (no_tree d (omega (arith, none)) k.asked)
 
   -- the first of those that are due was looked for
-  module _ (some : 0 < m) {x : Formed} (formed : TreeFormed (tree_from d next (drop u s)) s x) where
-    first : {y : Formed} → x ≡ y → TreeFormed (tree_from d next (drop u s)) s y
-    first e = subst (TreeFormed _ s) e formed
-
-    others : {y : Formed} → x ≡ y → and_then (tree_answer s y) (λ r. trees_from d (m - 1) r.0 r.1) ≡ trees_from d m next (drop u s)
-    others e =
-        ap (λ (z : Answer (ℕ × List ℕ)). and_then z (λ r. trees_from d (m - 1) r.0 r.1)) (first e).answer
+  module _ (some : 0 < m) where
+    others : {y : Result Taken Refused} → TreeFormed (tree_from d next (drop u s)) s y → and_then (tree_answer s y) (λ r. trees_from d (m - 1) r.0 r.1) ≡ trees_from d m next (drop u s)
+    others f =
+        ap (λ (z : Answer (ℕ × List ℕ)). and_then z (λ r. trees_from d (m - 1) r.0 r.1)) f.answer
         ∙ sym (trees_step d m next (drop u s) (λ h. omega (arith, some, h)))
 
-    pub due_refused : {r p : ℕ} → x ≡ Refused r p → TreeFormed (trees_from d n at (drop a s)) s (Refused r p)
-    due_refused e = k.whole _ (record { answer = others e; inside = (first e).inside })
+    pub due_refused : {r : Refused} → TreeFormed (tree_from d next (drop u s)) s (Err r) → TreeFormed (trees_from d n at (drop a s)) s (Err r)
+    due_refused f = k.whole _ (record { answer = others f; inside = f.inside })
 
-    pub due_good : {t : Taken} → x ≡ Good t → Due d n at a (m - 1) t.next t.used s
-    due_good e =
+    pub due_good : {t : Taken} {l : ℕ} → TreeFormed (tree_from d next (drop u s)) s (Ok t) → l ≡ m - 1 → Due d n at a l t.next t.used s
+    due_good {t} f e =
         record {
-          asked = record { few = omega (arith, k.asked.few); start = (first e).inside.0; low = (first e).inside.1 };
-          whole = λ y h. k.whole y (subst (λ z. TreeFormed z s y) (others e) h);
+          asked = record { few = omega (arith, e, k.asked.few); start = f.inside.0; low = f.inside.1 };
+          whole = λ y h. k.whole y (subst (λ z. TreeFormed z s y) (others f) (subst (λ i. TreeFormed (trees_from d i t.next (drop t.used s)) s y) e h));
         }
 
 -- ## The whole term
 
 -- the tree of the whole bytes was looked for
-module _ (s : List ℕ) {x : Formed} (h : TreeFormed (tree_from max_depth 0 s) s x) where
-  pub form_refused : {r at : ℕ} → x ≡ Refused r at → refuse r at ≡ shape_of s (decode s)
-  form_refused {r} {at} e = go (parse max_depth 0 s) (subst (TreeFormed _ s) e h).answer
+module _ (s : List ℕ) where
+  pub form_refused : {r : Refused} → TreeFormed (tree_from max_depth 0 s) s (Err r) → refuse (number_of r.refusal) r.place ≡ shape_of s (decode s)
+  form_refused {r} h = go (parse max_depth 0 s) h.answer
     where
-      go : (y : Answer Parsed) → refuse r at ≡ map_answer left y → refuse r at ≡ shape_of s (and_then y (λ p. whole_term p p.rest))
+      go : (y : Answer Parsed) → refuse (number_of r.refusal) r.place ≡ map_answer left y → refuse (number_of r.refusal) r.place ≡ shape_of s (and_then y (λ p. whole_term p p.rest))
       go (ok p) k = let z : ◌≡◌ {A = ℕ} 0 1 = cc in absurd (omega arith)
       go (refuse a b) k = cc
 
@@ -152,10 +141,8 @@ module _ (s : List ℕ) {x : Formed} (h : TreeFormed (tree_from max_depth 0 s) s
     whole : decode s ≡ whole_term tree (drop t.used s)
     inside : t.used ≤ length s
 
-  reached : {t : Taken} → x ≡ Good t → Reached t
-  reached {t} e =
-      let k = subst (TreeFormed _ s) e h in
-      go (parse max_depth 0 s) refl k.answer k.inside.0
+  reached : {t : Taken} → TreeFormed (tree_from max_depth 0 s) s (Ok t) → Reached t
+  reached {t} k = go (parse max_depth 0 s) refl k.answer k.inside.0
     where
       go : (y : Answer Parsed) → parse max_depth 0 s ≡ y → ok (t.next, drop t.used s) ≡ map_answer left y → t.used ≤ length s → Reached t
       go (ok p) r k l =
@@ -169,7 +156,7 @@ module _ (s : List ℕ) {x : Formed} (h : TreeFormed (tree_from max_depth 0 s) s
           }
       go (refuse a b) r k l = let z : ◌≡◌ {A = ℕ} 0 1 = cc in absurd (omega arith)
 
-  pub form_left_over : {t : Taken} → x ≡ Good t → t.used < length s → refuse 8 t.next ≡ shape_of s (decode s)
+  pub form_left_over : {t : Taken} → TreeFormed (tree_from max_depth 0 s) s (Ok t) → t.used < length s → refuse 8 t.next ≡ shape_of s (decode s)
   form_left_over {t} e l =
       let w = reached e in
       ap (refuse 8) (sym w.next) ∙ sym (ap (shape_of s) (w.whole ∙ go w.tree (drop t.used s) (omega (arith, length-drop t.used s))))
@@ -178,7 +165,7 @@ module _ (s : List ℕ) {x : Formed} (h : TreeFormed (tree_from max_depth 0 s) s
       go p [] k = absurd (omega arith)
       go p (b ∷ bs) k = refl
 
-  pub form_good : {t : Taken} → x ≡ Good t → Sliced s → length s ≤ t.used → ok (t.used, t.next) ≡ shape_of s (decode s)
+  pub form_good : {t : Taken} → TreeFormed (tree_from max_depth 0 s) s (Ok t) → Sliced s → length s ≤ t.used → ok (t.used, t.next) ≡ shape_of s (decode s)
   form_good {t} e b l =
       let w = reached e in
       let used : t.used ≡ length s = omega (arith, w.inside) in

@@ -4,6 +4,7 @@ use mathlib.Core.Bool.{Bool, true, false, ◌&&◌, and-true, and_assoc}
 use mathlib.Core.List.{List, [], ◌∷◌, ◌++◌}
 use Prim.Native.Nat.{ℕ, ◌+◌, ◌≤◌}
 use lib.ListN.{length}
+use Rattle.expr.specs.Kinds.{kind_number}
 use Rattle.expr.specs.Answers.{ok}
 use Rattle.expr.specs.Terms.{Zero, One, Top, Dup, End, Assign, Test, Complement, Star, LtlNext, Union, Intersect, Xor, Difference, Sequence, LtlUntil, Direct, Alias, Assigns, Tests, Matches, Expr, Plain, Unary, Binary, TestNegation, IfThenElse, Let, LetBitRange, Var, Ranged}
 use Rattle.expr.specs.Form.{decode}
@@ -70,14 +71,14 @@ module _ {s : List ℕ} {at : ℕ} (l : FragmentLeft s at) where
 
   module _ {h : Head} (u : Step s at l.terms h) where
     -- what the kind of the record says of the answer
-    by_kind : {b : Bool} → b ≡ fragment_kind h.kind → (e : Expr) → decode s ≡ ok e
+    by_kind : {b : Bool} → b ≡ fragment_kind (kind_number h.kind) → (e : Expr) → decode s ≡ ok e
         → is_test_fragment e ≡ (b && fragment_all (kids u.first ++ u.others))
     by_kind k e d =
         l.answer e d ∙ ap fragment_all u.are ∙ fragment_own u.first u.others
         ∙ ap (λ c. c && fragment_all (kids u.first ++ u.others)) (sym (k ∙ ap (λ r. fragment_kind r.kind) u.own_is))
 
-    pub fragment_no : false ≡ fragment_kind h.kind → FragmentOf s false
+    pub fragment_no : false ≡ fragment_kind (kind_number h.kind) → FragmentOf s false
     fragment_no k e d = sym (by_kind k e d)
 
-    pub fragment_step : true ≡ fragment_kind h.kind → FragmentLeft s (at + h.size)
+    pub fragment_step : true ≡ fragment_kind (kind_number h.kind) → FragmentLeft s (at + h.size)
     fragment_step k = record { terms = kids u.first ++ u.others; left = u.left; answer = by_kind k }

@@ -10,7 +10,9 @@ pub mod Slices
 pub mod Finite
 pub mod ForeignBits
 pub mod Numbers
+pub mod KindNumbers
 pub mod Steps
+pub mod KindStage
 pub mod Stages
 pub mod BareRecord
 pub mod Arities

@@ -2,18 +2,19 @@
 use mathlib.Core.Path.{◌≡◌, refl}
 use mathlib.Core.Bool.{Bool, true, false}
 use mathlib.Core.List.{List, [], ◌∷◌}
-use Prim.Native.Nat.{ℕ, suc, ◌+◌, ◌-◌, ◌*◌, ◌%◌, ◌^◌, ◌≤◌, ◌<◌}
-use native.Mathlib.Nat.{div-one}
+use Prim.Native.Nat.{ℕ, zero, suc, ◌+◌, ◌-◌, ◌*◌, ◌%◌, ◌^◌, ◌≤◌, ◌<◌}
+use native.Mathlib.Nat.{div-one, pow-succ'}
 use native.Mathlib.Omega.{arith}
 use borrow.Author.Tests.{ne_eqb}
 use lib.Dec.{eqb}
 use lib.ListN.{length, take, drop, get_or, length-drop}
 use lib.Seq.{drop-cons, drop-drop}
+use Rattle.std.specs.Prelude.{Ok, Err}
+use Rattle.refusals.specs.declared.Refusal.TheVariants.{EndsEarly, ZeroWritten}
 use Rattle.literals.specs.Bits.{bit_at, number_of}
 use Rattle.literals.specs.Reading.{got, fault, byte}
 use Rattle.literals.proofs.Codec.{chunk_take, chunk_lacks}
 use Rattle.expr.specs.Results.{NumberFound}
-use Rattle.expr.specs.declared.records.NumberRead.TheVariants as number
 
 -- ## A byte at the front
 
@@ -35,38 +36,55 @@ bit_zero m = rw (div-one m) refl
 spelled : (n i j : ℕ) (s : List ℕ) → i < length s → j ≡ suc i → number_of (take (suc n) (drop i s)) ≡ get_or s i 0 + 256 * number_of (take n (drop j s))
 spelled n i j s h e = rw (e, drop-cons s i 0 h) refl
 
-module _ (at : ℕ) (s : List ℕ) where
-  pub one_byte : 1 ≤ length s - at → number_of (take 1 (drop at s)) ≡ get_or s at 0
-  one_byte h = omega (arith, spelled 0 at (at + 1) s (omega arith) (omega arith))
+-- a power of 256 is more than 0
+power_some : (k : ℕ) → 0 < 256 ^ k
+power_some zero = omega arith
+power_some (suc k) = rw (pow-succ' 256 k) (omega (arith, power_some k))
 
-  pub two_bytes : 2 ≤ length s - at → number_of (take 2 (drop at s)) ≡ get_or s at 0 + 256 * get_or s (at + 1) 0
-  two_bytes h =
-      omega (arith, spelled 1 at (at + 1) s (omega arith) (omega arith), spelled 0 (at + 1) (at + 2) s (omega arith) (omega arith))
+small_power : (k : ℕ) → k ≤ 3 → 256 ^ k ≤ 2 ^ 24
+small_power zero h = omega arith
+small_power (suc zero) h = omega arith
+small_power (suc (suc zero)) h = omega arith
+small_power (suc (suc (suc zero))) h = omega arith
+small_power (suc (suc (suc (suc k)))) h = absurd (omega arith)
 
-  pub four_bytes : 4 ≤ length s - at
-      → number_of (take 4 (drop at s)) ≡ get_or s at 0 + 256 * (get_or s (at + 1) 0 + 256 * (get_or s (at + 2) 0 + 256 * get_or s (at + 3) 0))
-  four_bytes h =
-      omega (
-        arith,
-        spelled 3 at (at + 1) s (omega arith) (omega arith),
-        spelled 2 (at + 1) (at + 2) s (omega arith) (omega arith),
-        spelled 1 (at + 2) (at + 3) s (omega arith) (omega arith),
-        spelled 0 (at + 3) (at + 4) s (omega arith) (omega arith),
-      )
+-- v is spelled by the bytes from the i-th on, of n from the place at on
+pub record Spelled (n at i : ℕ) (s : List ℕ) (v : ℕ) : Type 0 where
+  pub spells : number_of (take (n - i) (drop (at + i) s)) ≡ v
+  pub below : v < 256 ^ (n - i)
+
+-- the last byte is read first
+module _ {n at : ℕ} {s : List ℕ} where
+  pub spelled_none : Spelled n at n s 0
+  spelled_none =
+      let none : n - n ≡ 0 = omega arith in
+      record { spells = rw none refl; below = rw none (omega arith) }
+
+  module _ {i v : ℕ} (some : 0 < i) (in_number : i ≤ n) (l : Spelled n at i s v) where
+    pub spelled_small : n ≤ 4 → v < 2 ^ 24
+    spelled_small few = omega (arith, l.below, small_power (n - i) (omega arith))
+
+    pub spelled_more : n ≤ length s - at → get_or s (at + (i - 1)) 0 < 256 → Spelled n at (i - 1) s (256 * v + get_or s (at + (i - 1)) 0)
+    spelled_more fits byte =
+        let count : n - (i - 1) ≡ suc (n - i) = omega arith in
+        record {
+          spells = rw count (omega (arith, spelled (n - i) (at + (i - 1)) (at + i) s (omega arith) (omega arith), l.spells));
+          below = rw (count, pow-succ' 256 (n - i)) (omega (arith, l.below));
+        }
 
 module _ (n at : ℕ) (s : List ℕ) {b : Bool} where
-  pub number_absent : b ≡ false → at ≤ length s → 0 < 256 ^ n → NumberFound n b at s (number.Value (record { value = 0; next = at }))
-  number_absent e h k = record { answer = rw e refl; inside = (omega arith, h, k) }
+  pub number_absent : b ≡ false → at ≤ length s → NumberFound n b at s (Ok (record { value = 0; next = at }))
+  number_absent e h = record { answer = rw e refl; inside = (omega arith, h, power_some n) }
 
-  pub number_lacking : b ≡ true → length s - at < n → NumberFound n b at s (number.Refused 1)
+  pub number_lacking : b ≡ true → length s - at < n → NumberFound n b at s (Err EndsEarly)
   number_lacking e h = record { answer = rw (e, chunk_lacks n (drop at s) (simp length-drop h)) refl; inside = omega arith }
 
   module _ (stands : b ≡ true) (fits : n ≤ length s - at) (v : ℕ) (spells : number_of (take n (drop at s)) ≡ v) where
-    pub number_zero : v ≡ 0 → NumberFound n b at s (number.Refused 4)
+    pub number_zero : v ≡ 0 → NumberFound n b at s (Err ZeroWritten)
     number_zero z =
         record { answer = rw (stands, chunk_take n (drop at s) (simp length-drop fits), spells, z) refl; inside = omega arith }
 
-    pub number_value : (v ≡ 0 → ⊥) → v < 256 ^ n → at ≤ length s → NumberFound n b at s (number.Value (record { value = v; next = at + n }))
+    pub number_value : (v ≡ 0 → ⊥) → v < 256 ^ n → at ≤ length s → NumberFound n b at s (Ok (record { value = v; next = at + n }))
     number_value z small h =
         record {
           answer = rw (stands, chunk_take n (drop at s) (simp length-drop fits), spells, ne_eqb v 0 z, drop-drop n at s) refl;

@@ -5,6 +5,10 @@ use Prim.Native.Nat.{ℕ, ◌+◌, ◌≤◌, ◌<◌}
 use native.Mathlib.Omega.{arith}
 use lib.ListN.{length, drop, length-drop}
 use lib.Seq.{drop-drop}
+use Rattle.std.specs.Prelude.{Result, Ok, Err}
+use Rattle.refusals.specs.Refusals.{number_of}
+use Rattle.refusals.specs.declared.Refusal.{Refusal}
+use Rattle.refusals.specs.declared.Refused.{Refused}
 use Rattle.literals.specs.Bits.{Bytes}
 use Rattle.literals.specs.Reading.{got}
 use Rattle.literals.specs.Patterns.{Pattern, Exact, Cidr, Wildcard, IpRange}
@@ -14,11 +18,7 @@ use Rattle.expr.specs.Records.{read_record, write_record}
 use Rattle.expr.specs.Form.{match_record, decode, encode}
 use Rattle.expr.specs.Results.{RecordFound, record_of, form_answer, shape_of, Term}
 use Rattle.expr.specs.declared.records.Head.{Head}
-use Rattle.expr.specs.declared.records.HeadRead.{HeadRead}
-use Rattle.expr.specs.declared.records.HeadRead.TheVariants as head
 use Rattle.expr.specs.declared.form.Taken.{Taken}
-use Rattle.expr.specs.declared.form.Formed.{Formed}
-use Rattle.expr.specs.declared.form.Formed.TheVariants as formed
 use Rattle.expr.proofs.RecordForm.{record_codec}
 use Rattle.expr.proofs.TermShape.{own, kids, encode_all, records_all, FitAll, encode_is, fits_is}
 use Rattle.expr.proofs.NodeForm.{own_node}
@@ -69,12 +69,12 @@ refused_is : (s : List ℕ) (r p : ℕ) (x : Answer Expr) → refuse r p ≡ sha
 refused_is s r p (ok e) h = let z : ◌≡◌ {A = ℕ} 0 1 = cc in absurd (omega arith)
 refused_is s r p (refuse r' p') h = cc
 
-module _ (s : List ℕ) {f : Formed} (h : form_answer f ≡ shape_of s (decode s)) where
-  pub formed_good : {t : Taken} → f ≡ formed.Good t → Term s
-  formed_good {t} e = good_is s t.used t.next (decode s) (sym (ap form_answer e) ∙ h)
+module _ (s : List ℕ) where
+  pub formed_good : {t : Taken} → form_answer (Ok t) ≡ shape_of s (decode s) → Term s
+  formed_good {t} h = good_is s t.used t.next (decode s) h
 
-  pub formed_refused : {r p : ℕ} → f ≡ formed.Refused r p → decode s ≡ refuse r p
-  formed_refused {r} {p} e = refused_is s r p (decode s) (sym (ap form_answer e) ∙ h)
+  pub formed_refused : (r : Refused) → form_answer (Err r) ≡ shape_of s (decode s) → decode s ≡ refuse (number_of r.refusal) r.place
+  formed_refused r h = refused_is s (number_of r.refusal) r.place (decode s) h
 
 -- ## What is left of a term
 
@@ -114,14 +114,13 @@ reading {s} {at} (e ∷ es) l h =
       fits = fits_append (kids e) es parts.1 l.fits.1;
     }
 
-found : (s : List ℕ) (at : ℕ) {r r' : HeadRead} → RecordFound (part at s) r → r ≡ r' → RecordFound (drop at s) r'
-found s at {r} f e = subst (RecordFound (drop at s)) e (subst (λ (l : List ℕ). RecordFound l r) (part_is at s) f)
+found : (s : List ℕ) (at : ℕ) {r : Result Head Refusal} → RecordFound (part at s) r → RecordFound (drop at s) r
+found s at {r} f = subst (λ (l : List ℕ). RecordFound l r) (part_is at s) f
 
 -- before the end no record is refused
-pub never_refused : {s : List ℕ} {at : ℕ} {es : List Expr} → Left s at es → at < length s → {r : HeadRead} {n : ℕ}
-    → RecordFound (part at s) r → r ≡ head.Refused n → ⊥
-never_refused {s} {at} {es} l lt f is =
-    let z : ◌≡◌ {A = ℕ} 0 1 = cc ((found s at f is).answer, (reading es l lt).reads) in
+pub never_refused : {s : List ℕ} {at : ℕ} {es : List Expr} → Left s at es → at < length s → {e : Refusal} → RecordFound (part at s) (Err e) → ⊥
+never_refused {s} {at} {es} l lt f =
+    let z : ◌≡◌ {A = ℕ} 0 1 = cc ((found s at f).answer, (reading es l lt).reads) in
     absurd (omega arith)
 
 -- the head h that is found is the first term's own record, and behind it the scan goes on
@@ -133,11 +132,10 @@ pub record Step (s : List ℕ) (at : ℕ) (es : List Expr) (h : Head) : Type 0 w
   pub more : at < at + h.size
   pub left : Left s (at + h.size) (kids first ++ others)
 
-pub step : {s : List ℕ} {at : ℕ} {es : List Expr} → Left s at es → at < length s → {r : HeadRead} {h : Head}
-    → RecordFound (part at s) r → r ≡ head.Found h → Step s at es h
-step {s} {at} {es} l lt {h = h} f is =
+pub step : {s : List ℕ} {at : ℕ} {es : List Expr} → Left s at es → at < length s → {h : Head} → RecordFound (part at s) (Ok h) → Step s at es h
+step {s} {at} {es} l lt {h} f =
     let r = reading es l lt in
-    let g = found s at f is in
+    let g = found s at f in
     let same : got (record_of (drop at s) h) (drop h.size (drop at s)) ≡ got (own r.first) (encode_all (kids r.first ++ r.others)) =
     g.answer ∙ r.reads in
     record {

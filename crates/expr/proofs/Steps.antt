@@ -4,10 +4,12 @@ use mathlib.Core.Bool.{Bool, true, false, cond}
 use mathlib.Core.List.{List}
 use Prim.Native.Nat.{ℕ}
 use lib.ListN.{drop}
+use Rattle.std.specs.Prelude.{Ok, Err}
+use Rattle.refusals.specs.Refusals.{number_of}
+use Rattle.refusals.specs.declared.Refusal.{Refusal}
 use Rattle.literals.specs.Reading.{Read, got, fault, Reads, go_on, ◌>>=◌, give, ask, nonzero}
 use Rattle.expr.specs.Results.{NumberFound}
 use Rattle.expr.specs.declared.records.Number.{Number}
-use Rattle.expr.specs.declared.records.NumberRead.TheVariants as number
 
 -- ## One part
 
@@ -36,13 +38,13 @@ module _ (t : ℕ → Bool) (r : ℕ) (none : t 0 ≡ true) where
   tested_is false bs = rw none refl
 
   module _ {b : Bool} {at : ℕ} {s : List ℕ} where
-    pub test_faulted : {q : ℕ} → NumberFound 1 b at s (number.Refused q) → fault q ≡ Tested b t r (drop at s)
+    pub test_faulted : {q : Refusal} → NumberFound 1 b at s (Err q) → fault (number_of q) ≡ Tested b t r (drop at s)
     test_faulted f = faulted _ f.answer ∙ tested_is b (drop at s)
 
-    pub test_denied : {v : Number} → NumberFound 1 b at s (number.Value v) → t v.value ≡ false → fault r ≡ Tested b t r (drop at s)
+    pub test_denied : {v : Number} → NumberFound 1 b at s (Ok v) → t v.value ≡ false → fault r ≡ Tested b t r (drop at s)
     test_denied f e = onward _ f.answer (denied r _ _ e) ∙ tested_is b (drop at s)
 
-    pub test_passed : {v : Number} → NumberFound 1 b at s (number.Value v) → t v.value ≡ true
+    pub test_passed : {v : Number} → NumberFound 1 b at s (Ok v) → t v.value ≡ true
         → got v.value (drop v.next s) ≡ Tested b t r (drop at s)
     test_passed f e = onward _ f.answer (asked r _ _ e refl) ∙ tested_is b (drop at s)
 

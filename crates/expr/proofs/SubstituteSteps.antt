@@ -8,51 +8,53 @@ use native.Mathlib.Omega.{arith}
 use lib.Dec.{leb}
 use lib.ListN.{length, drop}
 use borrow.Author.Tests.{le-leb, lt-leb}
-use Rattle.expr.specs.Answers.{Answer, ok, refuse, and_then, map_answer, need, buffer_after}
+use Rattle.std.specs.Prelude.{Result, Ok, Err}
+use Rattle.refusals.specs.Refusals.{number_of, refused_at}
+use Rattle.refusals.specs.declared.Refusal.{Refusal}
+use Rattle.refusals.specs.declared.Refusal.TheVariants.{ResultTooLarge, BufferTooShort}
+use Rattle.refusals.specs.declared.Refused.{Refused}
+use Rattle.expr.specs.Answers.{Answer, answered, ok, refuse, and_then, map_answer, need, buffer_after}
 use Rattle.expr.specs.Terms.{Name, Expr, records, depth}
 use Rattle.expr.specs.Form.{max_records, max_depth, decode, encode, Within}
 use Rattle.expr.specs.Operations.{substitute, into_room, substitute_bytes}
 use Rattle.expr.specs.Results.{form_answer, shape_of}
-use Rattle.expr.specs.Replaced.{substituted_answer, SubstitutedAs, Decodes, swap, Stands, Ready, Done}
+use Rattle.expr.specs.Replaced.{SubstitutedAs, Decodes, swap, Stands, Ready, Done}
 use Rattle.expr.specs.declared.form.Taken.{Taken}
-use Rattle.expr.specs.declared.form.Formed.{Formed}
-use Rattle.expr.specs.declared.form.Formed.TheVariants.{Good}
-use Rattle.expr.specs.declared.form.Formed.TheVariants as form
-use Rattle.expr.specs.declared.replace.Substituted.{Substituted}
-use Rattle.expr.specs.declared.replace.Substituted.TheVariants.{Length, Refused}
 use Rattle.expr.specs.declared.replace.Job.{Job}
-use Rattle.expr.specs.declared.replace.Went.{Went}
+use Rattle.expr.specs.declared.replace.Walked.{Walked}
 use Rattle.expr.proofs.FormTheorem.{decode_only}
 use Rattle.expr.proofs.Slices.{Sliced, bytes_each}
 use Rattle.expr.proofs.Replacing.{long, swapped_long}
 
 -- ## The forms
 
-pub form_decodes : {s : List ℕ} {x : Formed} {t : Taken} → form_answer x ≡ shape_of s (decode s) → x ≡ Good t → Decodes s
-form_decodes {s} {x} {t} h e = go (decode s) refl (ap form_answer (sym e) ∙ h)
+pub form_decodes : {s : List ℕ} {t : Taken} → form_answer (Ok t) ≡ shape_of s (decode s) → Decodes s
+form_decodes {s} {t} h = go (decode s) refl h
   where
-    go : (y : Answer Expr) → decode s ≡ y → form_answer (Good t) ≡ shape_of s y → Decodes s
+    go : (y : Answer Expr) → decode s ≡ y → form_answer (Ok t) ≡ shape_of s y → Decodes s
     go (ok e) k h = record { term = e; reads = k }
     go (refuse r at) k h = let z : ◌≡◌ {A = ℕ} 0 1 = cc in absurd (omega arith)
 
-pub form_refuses : (s : List ℕ) {x : Formed} {r at : ℕ} → form_answer x ≡ shape_of s (decode s) → x ≡ form.Refused r at → decode s ≡ refuse r at
-form_refuses s {x} {r} {at} h e = go (decode s) refl (ap form_answer (sym e) ∙ h)
+pub form_refuses : (s : List ℕ) (r : Refused) → form_answer (Err r) ≡ shape_of s (decode s) → decode s ≡ refuse (number_of r.refusal) r.place
+form_refuses s r h = go (decode s) refl h
   where
-    go : (y : Answer Expr) → decode s ≡ y → refuse r at ≡ shape_of s y → decode s ≡ refuse r at
+    go : (y : Answer Expr) → decode s ≡ y → refuse (number_of r.refusal) r.place ≡ shape_of s y → decode s ≡ refuse (number_of r.refusal) r.place
     go (ok e) k h = let z : ◌≡◌ {A = ℕ} 0 1 = cc in absurd (omega arith)
     go (refuse a b) k h = cc
 
 -- the answer is known, and what the buffer holds
-answers : {s : List ℕ} {x : Name} {t out out' : List ℕ} {r : Substituted} (y : Answer (List ℕ)) → substitute_bytes s x t (length out) ≡ y
-    → substituted_answer r ≡ map_answer (λ bs. length bs) y → out' ≡ buffer_after y out → SubstitutedAs s x t out out' r
+answers : {s : List ℕ} {x : Name} {t out out' : List ℕ} {r : Result ℕ Refused} (y : Answer (List ℕ)) → substitute_bytes s x t (length out) ≡ y
+    → answered r ≡ map_answer (λ bs. length bs) y → out' ≡ buffer_after y out → SubstitutedAs s x t out out' r
 answers {out = out} y e a b =
     record { answer = a ∙ ap (map_answer (λ bs. length bs)) (sym e); buffer = b ∙ ap (λ z. buffer_after z out) (sym e) }
 
-pub term_refused : {s : List ℕ} {r at : ℕ} (x : Name) (t out : List ℕ) → decode s ≡ refuse r at → SubstitutedAs s x t out out (Refused r at)
-term_refused {s} {r} {at} x t out h = answers (refuse r at) (rw h) refl refl
+pub term_refused : {s : List ℕ} {r : Refused} (x : Name) (t out : List ℕ) → decode s ≡ refuse (number_of r.refusal) r.place → SubstitutedAs s x t out out (Err r)
+term_refused {s} {r} x t out h = answers (refuse (number_of r.refusal) r.place) (rw h) refl refl
 
-pub other_refused : {s t : List ℕ} {r at : ℕ} (x : Name) (out : List ℕ) → Decodes s → decode t ≡ refuse r at → SubstitutedAs s x t out out (Refused (30 + r) at)
-other_refused {s} {t} {r} {at} x out d h = answers (refuse (30 + r) at) (rw (d.reads, h)) refl refl
+pub other_refused : {s t : List ℕ} (r : Refused) {q : Refusal} (x : Name) (out : List ℕ) → Decodes s → decode t ≡ refuse (number_of r.refusal) r.place
+    → number_of q ≡ 30 + number_of r.refusal → SubstitutedAs s x t out out (Err (refused_at q r.place))
+other_refused {s} {t} r x out d h e =
+    answers (refuse (30 + number_of r.refusal) r.place) (rw (d.reads, h)) (ap (λ n. refuse n r.place) e) refl
 
 -- ## The result
 
@@ -116,7 +118,7 @@ module _ {s t : List ℕ} (x : Name) (both : Both s t) where
   pub by_ready : (out : List ℕ) → Ready t max_depth false (job 0 0 false) t out 0
   by_ready out = whole_ready r r r_is r_is.0 false (job 0 0 false) t out (λ h. absurd (false≢true h)) (λ h. absurd (false≢true h))
 
-  module _ {out out₁ : List ℕ} {m : Went}
+  module _ {out out₁ : List ℕ} {m : Walked}
       (by-done : (q : Ready t max_depth false (job 0 0 false) t out 0) → Done q.term (swap x q.by false q.term) (job 0 0 false) out out₁ 0 m) where
     by_is : Done r r (job 0 0 false) out out₁ 0 m
     unfolding by_ready whole_ready
@@ -130,7 +132,7 @@ module _ {s t : List ℕ} (x : Name) (both : Both s t) where
     pub measure_ready : Ready s max_depth true (job m.records m.depth false) t out₁ 0
     measure_ready = whole_ready e r e_is r_is.0 true (job m.records m.depth false) t out₁ (λ _. stands false) (λ h. absurd (false≢true h))
 
-    module _ {out₂ : List ℕ} {w : Went}
+    module _ {out₂ : List ℕ} {w : Walked}
         (done : (q : Ready s max_depth true (job m.records m.depth false) t out₁ 0)
         → Done q.term (swap x q.by true q.term) (job m.records m.depth false) out₁ out₂ 0 w) where
       res_is : Done e res (job m.records m.depth false) out₁ out₂ 0 w
@@ -140,7 +142,7 @@ module _ {s t : List ℕ} (x : Name) (both : Both s t) where
       kept : out₂ ≡ out
       kept = res_is.wrote ∙ by_is.wrote
 
-      pub too_many : max_records < w.records → SubstitutedAs s x t out out₂ (Refused 27 0)
+      pub too_many : max_records < w.records → SubstitutedAs s x t out out₂ (Err (refused_at ResultTooLarge 0))
       too_many h =
           let over : leb (records res) max_records ≡ false = lt-leb (records res) max_records (omega (arith, res_is.count)) in
           answers (refuse 27 0) (limits out (rw over)) refl kept
@@ -149,7 +151,7 @@ module _ {s t : List ℕ} (x : Name) (both : Both s t) where
         few_is : leb (records res) max_records ≡ true
         few_is = le-leb (records res) max_records (omega (arith, res_is.count))
 
-        pub too_deep : max_depth < w.depth → SubstitutedAs s x t out out₂ (Refused 27 0)
+        pub too_deep : max_depth < w.depth → SubstitutedAs s x t out out₂ (Err (refused_at ResultTooLarge 0))
         too_deep h =
             let over : leb (depth res) max_depth ≡ false = lt-leb (depth res) max_depth (omega (arith, res_is.deep)) in
             answers (refuse 27 0) (limits out (rw (few_is, over))) refl kept
@@ -158,7 +160,7 @@ module _ {s t : List ℕ} (x : Name) (both : Both s t) where
           flat_is : leb (depth res) max_depth ≡ true
           flat_is = le-leb (depth res) max_depth (omega (arith, res_is.deep))
 
-          pub no_room : length out₂ < w.to → SubstitutedAs s x t out out₂ (Refused 26 0)
+          pub no_room : length out₂ < w.to → SubstitutedAs s x t out out₂ (Err (refused_at BufferTooShort 0))
           no_room h =
               let over : leb (length (encode res)) (length out) ≡ false =
               lt-leb (length (encode res)) (length out) (omega (arith, res_is.next, ap length kept)) in
@@ -171,10 +173,10 @@ module _ {s t : List ℕ} (x : Name) (both : Both s t) where
             pub write_ready : Ready s max_depth true (job m.records m.depth true) t out₂ 0
             write_ready = whole_ready e r e_is r_is.0 true (job m.records m.depth true) t out₂ (λ _. stands true) (λ _. fits)
 
-            pub written : {out₃ : List ℕ} {v : Went}
+            pub written : {out₃ : List ℕ} {v : Walked}
                 → ((q : Ready s max_depth true (job m.records m.depth true) t out₂ 0)
                 → Done q.term (swap x q.by true q.term) (job m.records m.depth true) out₂ out₃ 0 v)
-                → SubstitutedAs s x t out out₃ (Length v.to)
+                → SubstitutedAs s x t out out₃ (Ok v.to)
             unfolding write_ready whole_ready
             written {out₃} {v} last =
                 let d : Done e res (job m.records m.depth true) out₂ out₃ 0 v = last write_ready in

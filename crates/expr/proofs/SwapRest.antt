@@ -10,14 +10,14 @@ use Rattle.expr.specs.Terms.{Expr}
 use Rattle.expr.specs.Form.{encode}
 use Rattle.expr.specs.Replaced.{swap, swap_all, pasted, Ready, Done, ReadyAll, DoneAll}
 use Rattle.expr.specs.declared.replace.Job.{Job}
-use Rattle.expr.specs.declared.replace.Went.{Went}
+use Rattle.expr.specs.declared.replace.Walked.{Walked}
 use Rattle.expr.proofs.TermShape.{encode_all, records_all, depth_all, FitAll}
 use Rattle.expr.proofs.Slices.{part, part_is}
 use Rattle.expr.proofs.Replacing.{short}
 use Rattle.expr.proofs.Copied.{pasted_none, pasted_more}
 
 -- no term is asked for
-pub none_done : {s : List ℕ} {was : Went} {n left : ℕ} {first others : Bool} {j : Job} {w out : List ℕ} (q : ReadyAll s was n left first others j w out) → n ≡ 0
+pub none_done : {s : List ℕ} {was : Walked} {n left : ℕ} {first others : Bool} {j : Job} {w out : List ℕ} (q : ReadyAll s was n left first others j w out) → n ≡ 0
     → DoneAll q.terms (swap_all j.name q.by first others q.terms) j out out was was
 none_done {was = was} {first = first} {others = others} {j = j} {out = out} q none = go q.terms (sym q.many ∙ none)
   where
@@ -36,7 +36,7 @@ front_of : (es : List Expr) → (length es ≡ 0 → ⊥) → Front es
 front_of [] h = absurd (h refl)
 front_of (e ∷ es) h = record { front = e; back = es; is = refl }
 
-module _ {s : List ℕ} {was : Went} {n left : ℕ} {first others : Bool} {j : Job} {w out : List ℕ} (q : ReadyAll s was n left first others j w out)
+module _ {s : List ℕ} {was : Walked} {n left : ℕ} {first others : Bool} {j : Job} {w out : List ℕ} (q : ReadyAll s was n left first others j w out)
     (some : n ≡ 0 → ⊥) where
   split : Front q.terms
   split = front_of q.terms (λ h. some (q.many ∙ h))
@@ -80,7 +80,7 @@ module _ {s : List ℕ} {was : Went} {n left : ℕ} {first others : Bool} {j : J
         room = λ t. omega (arith, q.room t, long_all);
       }
 
-  module _ {out₁ : List ℕ} {a : Went} (same : length out₁ ≡ length out)
+  module _ {out₁ : List ℕ} {a : Walked} (same : length out₁ ≡ length out)
       (done : (b : Ready (part was.used s) left first j w out was.to) → Done b.term (swap j.name b.by first b.term) j out out₁ was.to a) where
     first_done : Done f f' j out out₁ was.to a
     unfolding first_ready
@@ -97,7 +97,7 @@ module _ {s : List ℕ} {was : Went} {n left : ℕ} {first others : Bool} {j : J
     level_small = omega (arith, q.small, q.high, q.level, long_all, first_done.deep, short f')
 
     module _ {m : ℕ} (most : m ≡ max was.depth (1 + a.depth)) where
-      abbrev pub next_went : Went
+      abbrev pub next_went : Walked
       next_went = record { used = was.used + a.used; to = a.to; records = was.records + a.records; depth = m }
 
       pub rest_ready : ReadyAll s next_went (n - 1) left others others j w out₁
@@ -125,7 +125,7 @@ module _ {s : List ℕ} {was : Went} {n left : ℕ} {first others : Bool} {j : J
           }
 
       -- what comes of the others is what comes of all
-      pub rest_done : {out₂ : List ℕ} {r : Went}
+      pub rest_done : {out₂ : List ℕ} {r : Walked}
           → DoneAll rest_ready.terms (swap_all j.name rest_ready.by others others rest_ready.terms) j out₁ out₂ next_went r
           → DoneAll q.terms (swap_all j.name q.by first others q.terms) j out out₂ was r
       unfolding rest_ready
@@ -146,32 +146,34 @@ module _ {s : List ℕ} {was : Went} {n left : ℕ} {first others : Bool} {j : J
 -- ## Some of several
 
 -- of n terms behind what was done, m are due behind what is done: what comes of those is what comes of all
-pub record Due (s : List ℕ) (was : Went) (n left : ℕ) (first others : Bool) (j : Job) (w out : List ℕ) (done : Went) (m : ℕ) (live : Bool) (out₁ : List ℕ) : Type 0 where
+pub record Due (s : List ℕ) (was : Walked) (n left : ℕ) (first others : Bool) (j : Job) (w out : List ℕ) (done : Walked) (m : ℕ) (live : Bool) (out₁ : List ℕ) : Type 0 where
   pub same : length out₁ ≡ length out
   pub asked : ReadyAll s done m left live others j w out₁
-  pub whole : (q : ReadyAll s was n left first others j w out) → (b : ReadyAll s done m left live others j w out₁) × ((out₂ : List ℕ) (r : Went)
+  pub whole : (q : ReadyAll s was n left first others j w out) → (b : ReadyAll s done m left live others j w out₁) × ((out₂ : List ℕ) (r : Walked)
       → DoneAll b.terms (swap_all j.name b.by live others b.terms) j out₁ out₂ done r
       → DoneAll q.terms (swap_all j.name q.by first others q.terms) j out out₂ was r)
 
-pub all_due : {s : List ℕ} {was : Went} {n left : ℕ} {first others : Bool} {j : Job} {w out : List ℕ} → ReadyAll s was n left first others j w out
-    → Due s was n left first others j w out was n first out
-all_due k = record { same = refl; asked = k; whole = λ q. (q, λ out₂ r d. d) }
+pub all_due : {s : List ℕ} {was : Walked} {n m left : ℕ} {first others : Bool} {j : Job} {w out : List ℕ} → ReadyAll s was n left first others j w out
+    → m ≡ n → Due s was n left first others j w out was m first out
+all_due {s} {was} {n} {m} {left} {first} {others} {j} {w} {out} k e =
+    subst (λ i. Due s was n left first others j w out was i first out) (sym e) (record { same = refl; asked = k; whole = λ q. (q, λ out₂ r d. d) })
 
-module _ {s : List ℕ} {was : Went} {n left : ℕ} {first others : Bool} {j : Job} {w out : List ℕ} {done : Went} {m : ℕ} {live : Bool} {out₁ : List ℕ}
+module _ {s : List ℕ} {was : Walked} {n left : ℕ} {first others : Bool} {j : Job} {w out : List ℕ} {done : Walked} {m : ℕ} {live : Bool} {out₁ : List ℕ}
     (k : Due s was n left first others j w out done m live out₁) where
   pub none_due : m ≤ 0 → (q : ReadyAll s was n left first others j w out)
       → DoneAll q.terms (swap_all j.name q.by first others q.terms) j out out₁ was done
   none_due none q = let b = k.whole q in b.1 out₁ done (none_done b.0 (omega (arith, none)))
 
   -- the first of those that are due is done
-  pub due_again : (some : 0 < m) {out₂ : List ℕ} {a : Went} (same : length out₂ ≡ length out₁)
+  pub due_again : (some : 0 < m) {out₂ : List ℕ} {a : Walked} (same : length out₂ ≡ length out₁)
       (walked : (b : Ready (part done.used s) left live j w out₁ done.to) → Done b.term (swap j.name b.by live b.term) j out₁ out₂ done.to a)
-      {d : ℕ} (most : d ≡ max done.depth (1 + a.depth))
-      → Due s was n left first others j w out (record { used = done.used + a.used; to = a.to; records = done.records + a.records; depth = d }) (m - 1) others out₂
-  due_again some same walked most =
+      {d l : ℕ} (most : d ≡ max done.depth (1 + a.depth)) (fewer : l ≡ m - 1)
+      → Due s was n left first others j w out (record { used = done.used + a.used; to = a.to; records = done.records + a.records; depth = d }) l others out₂
+  due_again some {out₂} {a} same walked {d} {l} most fewer =
       let due : m ≡ 0 → ⊥ = λ h. omega (arith, some, h) in
-      record {
+      subst (λ i. Due s was n left first others j w out (record { used = done.used + a.used; to = a.to; records = done.records + a.records; depth = d }) i others out₂) (sym fewer)
+      (record {
         same = same ∙ k.same;
         asked = rest_ready k.asked due same walked most;
         whole = λ q. let b = k.whole q in (rest_ready b.0 due same walked most, λ out₃ r d. b.1 out₃ r (rest_done b.0 due same walked most d));
-      }
+      })

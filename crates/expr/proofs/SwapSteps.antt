@@ -5,6 +5,8 @@ use mathlib.Core.List.{List, ◌++◌}
 use Prim.Native.Nat.{ℕ, ◌+◌, ◌-◌, ◌^◌, ◌≤◌, ◌<◌}
 use native.Mathlib.Omega.{arith}
 use lib.ListN.{length, take, length-append}
+use Rattle.std.specs.Prelude.{Ok}
+use Rattle.expr.specs.Kinds.{kind_number}
 use Rattle.literals.proofs.Logic.{and_left}
 use Rattle.expr.specs.Terms.{Expr, records, depth}
 use Rattle.expr.specs.Records.{write_record}
@@ -13,12 +15,10 @@ use Rattle.expr.specs.Results.{arity_of}
 use Rattle.expr.specs.Replaced.{named, swap, swap_all, pasted, Stands, Ready, Done, ReadyAll, DoneAll}
 use Rattle.expr.specs.declared.records.Head.{Head}
 use Rattle.expr.specs.declared.replace.Job.{Job}
-use Rattle.expr.specs.declared.replace.Went.{Went}
+use Rattle.expr.specs.declared.replace.Walked.{Walked}
 use Rattle.expr.proofs.TermShape.{kids, encode_all, records_all, depth_all, encode_is, records_is, depth_is, fits_is}
 use Rattle.expr.proofs.Arities.{arity_small}
 use Rattle.expr.specs.Results.{RecordFound}
-use Rattle.expr.specs.declared.records.HeadRead.{HeadRead}
-use Rattle.expr.specs.declared.records.HeadRead.TheVariants as head
 use Rattle.expr.proofs.HeadOf.{Headed, headed}
 use Rattle.expr.proofs.Replacing.{of_name, free_var, free_first, free_others, Kept, swap_keeps, swap_var, kids_count, length_is}
 use Rattle.expr.proofs.Copied.{pasted_more}
@@ -34,21 +34,21 @@ module _ {s : List ℕ} {left : ℕ} {live : Bool} {j : Job} {w out : List ℕ} 
   some_left = omega (arith, depth_is e, q.deep)
 
   -- the record that was read is the term's first
-  pub front_head : {x : HeadRead} {h : Head} → RecordFound s x → x ≡ head.Found h → Headed s e q.more h
-  front_head f is = headed e q.more q.bytes q.fits f is
+  pub front_head : {h : Head} → RecordFound s (Ok h) → Headed s e q.more h
+  front_head f = headed e q.more q.bytes q.fits f
 
   module _ {h : Head} (k : Headed s e q.more h) where
     -- what is asked of the record that was read holds of the term's own
-    pub of_name_fact : (of : ℕ) {b : Bool} → b ≡ named h.kind h.name of j.name → b ≡ of_name e of j.name
+    pub of_name_fact : (of : ℕ) {b : Bool} → b ≡ named (kind_number h.kind) h.name of j.name → b ≡ of_name e of j.name
     of_name_fact of p = p ∙ (λ i. named (k.kind i) (k.name i) of j.name)
 
-    pub is_var : {v b r : Bool} → v ≡ named h.kind h.name 20 j.name → b ≡ (live && v) → b ≡ r → free_var live j.name e ≡ r
+    pub is_var : {v b r : Bool} → v ≡ named (kind_number h.kind) h.name 20 j.name → b ≡ (live && v) → b ≡ r → free_var live j.name e ≡ r
     is_var p o t = ap (λ v. live && v) (sym (of_name_fact 20 p)) ∙ sym o ∙ t
 
-    pub is_first : {v b : Bool} → v ≡ named h.kind h.name 19 j.name → b ≡ (live && not v) → b ≡ free_first live j.name e
+    pub is_first : {v b : Bool} → v ≡ named (kind_number h.kind) h.name 19 j.name → b ≡ (live && not v) → b ≡ free_first live j.name e
     is_first p o = o ∙ ap (λ v. live && not v) (of_name_fact 19 p)
 
-    pub is_others : {v b : Bool} → v ≡ named h.kind h.name 18 j.name → b ≡ (live && not v) → b ≡ free_others live j.name e
+    pub is_others : {v b : Bool} → v ≡ named (kind_number h.kind) h.name 18 j.name → b ≡ (live && not v) → b ≡ free_others live j.name e
     is_others p o = o ∙ ap (λ v. live && not v) (of_name_fact 18 p)
 
     -- ## The variable
@@ -108,17 +108,17 @@ module _ {s : List ℕ} {left : ℕ} {live : Bool} {j : Job} {w out : List ℕ} 
         kids_long : length (encode_all (kids e')) ≡ length (encode_all (swap_all j.name q.by first others (kids e)))
         kids_long = ap (λ es. length (encode_all es)) kids_are
 
-        abbrev pub own_went : Went
+        abbrev pub own_went : Walked
         own_went = record { used = h.size; to = to + h.size; records = 1; depth = 1 }
 
-        pub all_ready : {out₁ : List ℕ} {n : ℕ} → length out₁ ≡ length out → n ≡ arity_of h.kind → ReadyAll s own_went n (left - 1) first others j w out₁
+        pub all_ready : {out₁ : List ℕ} {n : ℕ} → length out₁ ≡ length out → n ≡ arity_of (kind_number h.kind) → ReadyAll s own_went n (left - 1) first others j w out₁
         all_ready {out₁} {n} same count =
             record {
               terms = kids e;
               by = q.by;
               more = q.more;
               many = count ∙ ap arity_of k.kind ∙ kids_count e;
-              few = arity_small h.kind n count;
+              few = arity_small (kind_number h.kind) n count;
               start = k.inside;
               bytes = k.behind;
               fits = ((fits_is e).0 q.fits).1;
@@ -133,8 +133,8 @@ module _ {s : List ℕ} {left : ℕ} {live : Bool} {j : Job} {w out : List ℕ} 
             }
 
         -- what comes of the children is what comes of the term
-        module _ {out₁ out₂ : List ℕ} {r : Went} {n : ℕ} (p : out₁ ≡ pasted j.write to (take h.size s) out) (same : length out₁ ≡ length out)
-            (count : n ≡ arity_of h.kind)
+        module _ {out₁ out₂ : List ℕ} {r : Walked} {n : ℕ} (p : out₁ ≡ pasted j.write to (take h.size s) out) (same : length out₁ ≡ length out)
+            (count : n ≡ arity_of (kind_number h.kind))
             (done : (a : ReadyAll s own_went n (left - 1) first others j w out₁)
             → DoneAll a.terms (swap_all j.name a.by first others a.terms) j out₁ out₂ own_went r) where
           kids_done : DoneAll (kids e) (swap_all j.name q.by first others (kids e)) j out₁ out₂ own_went r

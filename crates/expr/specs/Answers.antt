@@ -1,12 +1,19 @@
 -- What a call answers (document 01, "What each operation gives, and when it declines").
 use mathlib.Core.{Bool.Bool, Bool.true, Bool.false, List.List, List.◌++◌}
-use Rattle.std.specs.Prelude.{ℕ}
+use Rattle.std.specs.Prelude.{ℕ, Result, Ok, Err}
 use lib.{ListN.length, ListN.drop}
+use Rattle.refusals.specs.Refusals.{number_of}
+use Rattle.refusals.specs.declared.Refused.{Refused}
 
 -- "A call answers success or a refusal number with a place."
 pub data Answer (A : Type 0) : Type 0 where
   ok : A → Answer A
   refuse : ℕ → ℕ → Answer A
+
+-- what a function of src/ answers
+abbrev pub answered : {A : Type 0} → Result A Refused → Answer A
+answered (Ok a) = ok a
+answered (Err e) = refuse (number_of e.refusal) e.place
 
 -- go on with the result, or keep the refusal
 abbrev pub and_then : {A B : Type 0} → Answer A → (A → Answer B) → Answer B

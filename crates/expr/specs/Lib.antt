@@ -1,6 +1,7 @@
 -- Terms, their bytes and the operations on terms alone. Read in this order.
 pub mod Answers
 pub mod Terms
+pub mod Kinds
 pub mod Records
 pub mod Form
 pub mod Operations

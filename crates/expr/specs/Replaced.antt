@@ -1,21 +1,15 @@
 -- What `substitute` answers, in the words of the definitions.
 use mathlib.Core.{Path.◌≡◌, Bool.Bool, Bool.true, Bool.false, Bool.cond, Bool.◌&&◌, List.List, List.[], List.◌∷◌, List.◌++◌}
-use Rattle.std.specs.Prelude.{ℕ, ◌+◌, ◌^◌, ◌≤◌, ◌<◌, max}
+use Rattle.std.specs.Prelude.{ℕ, ◌+◌, ◌^◌, ◌≤◌, ◌<◌, max, Result}
 use lib.{Dec.eqb, ListN.length, ListN.take, ListN.drop}
-use Rattle.expr.specs.{Answers.Answer, Answers.ok, Answers.refuse, Answers.map_answer, Answers.buffer_after, Terms.Name, Terms.Expr, Terms.records, Terms.depth, Form.decode, Form.encode, Form.Fits, Operations.substitute, Operations.substitute_bytes}
-use Rattle.expr.specs.declared.replace.Substituted.{Substituted}
-use Rattle.expr.specs.declared.replace.Substituted.TheVariants.{Length, Refused}
+use Rattle.expr.specs.{Answers.answered, Answers.ok, Answers.map_answer, Answers.buffer_after, Terms.Name, Terms.Expr, Terms.records, Terms.depth, Form.decode, Form.encode, Form.Fits, Operations.substitute, Operations.substitute_bytes}
+use Rattle.refusals.specs.declared.Refused.{Refused}
 use Rattle.expr.specs.declared.replace.Job.{Job}
-use Rattle.expr.specs.declared.replace.Went.{Went}
-
--- the length of the result, or the refusal
-abbrev pub substituted_answer : Substituted → Answer ℕ
-substituted_answer (Length n) = ok n
-substituted_answer (Refused r p) = refuse r p
+use Rattle.expr.specs.declared.replace.Walked.{Walked}
 
 -- of a term, a name, a replacement and the answer buffer before and after the call
-pub record SubstitutedAs (s : List ℕ) (x : ℕ) (t out out' : List ℕ) (r : Substituted) : Type 0 where
-  pub answer : substituted_answer r ≡ map_answer (λ bs. length bs) (substitute_bytes s x t (length out))
+pub record SubstitutedAs (s : List ℕ) (x : ℕ) (t out out' : List ℕ) (r : Result ℕ Refused) : Type 0 where
+  pub answer : answered r ≡ map_answer (λ bs. length bs) (substitute_bytes s x t (length out))
   pub buffer : out' ≡ buffer_after (substitute_bytes s x t (length out)) out
 
 -- bytes of good form
@@ -80,7 +74,7 @@ pub record Ready (s : List ℕ) (left : ℕ) (live : Bool) (j : Job) (by_bytes o
   pub room : j.write ≡ true → to + length (encode (swap j.name by live term)) ≤ length out
 
 -- what comes of the term e that is written as e'
-pub record Done (e e' : Expr) (j : Job) (out out' : List ℕ) (to : ℕ) (w : Went) : Type 0 where
+pub record Done (e e' : Expr) (j : Job) (out out' : List ℕ) (to : ℕ) (w : Walked) : Type 0 where
   pub used : w.used ≡ length (encode e)
   pub next : w.to ≡ to + length (encode e')
   pub count : w.records ≡ records e'
@@ -88,7 +82,7 @@ pub record Done (e e' : Expr) (j : Job) (out out' : List ℕ) (to : ℕ) (w : We
   pub wrote : out' ≡ pasted j.write to (encode e') out
 
 -- what is asked of n children of a term, behind the bytes that are used
-pub record ReadyAll (s : List ℕ) (w : Went) (n left : ℕ) (first others : Bool) (j : Job) (by_bytes out : List ℕ) : Type 0 where
+pub record ReadyAll (s : List ℕ) (w : Walked) (n left : ℕ) (first others : Bool) (j : Job) (by_bytes out : List ℕ) : Type 0 where
   pub terms : List Expr
   pub by : Expr
   pub more : List ℕ
@@ -107,7 +101,7 @@ pub record ReadyAll (s : List ℕ) (w : Went) (n left : ℕ) (first others : Boo
   pub room : j.write ≡ true → w.to + length (encode_all (swap_all j.name by first others terms)) ≤ length out
 
 -- what comes of the children es that are written as es', behind what was
-pub record DoneAll (es es' : List Expr) (j : Job) (out out' : List ℕ) (was w : Went) : Type 0 where
+pub record DoneAll (es es' : List Expr) (j : Job) (out out' : List ℕ) (was w : Walked) : Type 0 where
   pub used : w.used ≡ was.used + length (encode_all es)
   pub next : w.to ≡ was.to + length (encode_all es')
   pub count : w.records ≡ was.records + records_all es'

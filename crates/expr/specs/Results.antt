@@ -1,48 +1,39 @@
 -- What the functions of this crate answer, in the words of the definitions.
-use mathlib.Core.{Path.◌≡◌, Bool.Bool, Bool.cond, Bool.◌||◌, List.List, List.[], List.◌∷◌, Bool.◌&&◌, Option.Option, Option.none, Option.some}
-use Rattle.std.specs.Prelude.{ℕ, ◌+◌, ◌^◌, ◌≤◌, ◌<◌, zero, suc}
+use mathlib.Core.{Path.◌≡◌, Bool.Bool, Bool.cond, Bool.◌||◌, List.List, List.[], List.◌∷◌, Bool.◌&&◌}
+use Rattle.std.specs.Prelude.{ℕ, ◌+◌, ◌^◌, ◌≤◌, ◌<◌, zero, suc, Result, Ok, Err, Option, Some, None}
 use lib.{Dec.leb, ListN.length, ListN.get_or, ListN.take, ListN.drop, Dec.ltb, Dec.eqb}
 use Rattle.literals.specs.{Bits.bit_at, Bits.unpack, Reading.Read, Reading.got, Reading.fault, Reading.Reads, Reading.◌>>=◌, Reading.give, Reading.ask, Reading.byte, Reading.nonzero, Reading.literal, Reading.max_literal, Reading.bytes_for, Results.literal_answer, Results.LiteralInside}
-use Rattle.literals.specs.declared.LiteralRead.{LiteralRead}
-use Rattle.expr.specs.{Answers.Answer, Answers.ok, Answers.refuse, Answers.map_answer, Terms.Expr, Terms.records, Records.Record, Records.kind_fields, Records.none_lacks, Records.is_match, Records.fits_pattern, Records.read_record, Form.max_records, Form.Node, Form.node_of, Form.node0, Form.node1, Form.node2, Form.node3, Form.parse, Answers.and_then, Form.plain_record, Terms.test_kind, Form.decode, Operations.is_test_fragment, Operations.num_fields}
+use Rattle.literals.specs.declared.Literal.{Literal}
+use Rattle.refusals.specs.Refusals.{number_of}
+use Rattle.refusals.specs.declared.Refusal.{Refusal}
+use Rattle.refusals.specs.declared.Refused.{Refused}
+use Rattle.expr.specs.{Answers.Answer, Answers.ok, Answers.map_answer, Answers.answered, Terms.Expr, Terms.records, Records.Record, Records.kind_fields, Records.none_lacks, Records.is_match, Records.fits_pattern, Records.read_record, Form.max_records, Form.Node, Form.node_of, Form.node0, Form.node1, Form.node2, Form.node3, Form.parse, Answers.and_then, Form.plain_record, Terms.test_kind, Form.decode, Operations.is_test_fragment, Operations.num_fields}
+use Rattle.expr.specs.Kinds.{kind_number, pattern_number}
 use Rattle.expr.specs.declared.records.Head.{Head}
-use Rattle.expr.specs.declared.records.HeadRead.{HeadRead}
-use Rattle.expr.specs.declared.records.NumberRead.{NumberRead}
-use Rattle.expr.specs.declared.records.KindRead.{KindRead}
-use Rattle.expr.specs.declared.records.RangeRead.{RangeRead}
-use Rattle.expr.specs.declared.records.PatternRead.{PatternRead}
-use Rattle.expr.specs.declared.form.Formed.{Formed}
-use Rattle.expr.specs.declared.form.Formed.TheVariants.{Good, Refused}
-use Rattle.expr.specs.declared.operations.Fragment.{Fragment}
-use Rattle.expr.specs.declared.operations.FieldCount.{FieldCount}
-use Rattle.expr.specs.declared.operations.OwnFields.{OwnFields}
-use Rattle.expr.specs.declared.records.HeadRead.TheVariants as head
-use Rattle.expr.specs.declared.records.NumberRead.TheVariants as number
-use Rattle.expr.specs.declared.records.KindRead.TheVariants as kind
-use Rattle.expr.specs.declared.records.RangeRead.TheVariants as range
-use Rattle.expr.specs.declared.records.PatternRead.TheVariants as chosen
-use Rattle.expr.specs.declared.operations.Fragment.TheVariants as fragment
-use Rattle.expr.specs.declared.operations.FieldCount.TheVariants as fields
-use Rattle.expr.specs.declared.operations.OwnFields.TheVariants as own
+use Rattle.expr.specs.declared.records.Number.{Number}
+use Rattle.expr.specs.declared.records.Opened.{Opened}
+use Rattle.expr.specs.declared.records.Range.{Range}
+use Rattle.expr.specs.declared.records.Chosen.{Chosen}
+use Rattle.expr.specs.declared.form.Taken.{Taken}
 
 -- ## A number, a literal
 
 -- a number that was read from the bytes s, and the bytes behind it; or the refusal's number
-abbrev pub number_answer : List ℕ → NumberRead → Read ℕ
-number_answer s (number.Value v) = got v.value (drop v.next s)
-number_answer s (number.Refused r) = fault r
+abbrev pub number_answer : List ℕ → Result Number Refusal → Read ℕ
+number_answer s (Ok v) = got v.value (drop v.next s)
+number_answer s (Err e) = fault (number_of e)
 
-abbrev pub NumberInside : ℕ → ℕ → List ℕ → NumberRead → Type 0
-NumberInside n at s (number.Value v) = (at ≤ v.next) × (v.next ≤ length s) × (v.value < 256 ^ n)
-NumberInside n at s (number.Refused r) = r ≤ 5
+abbrev pub NumberInside : ℕ → ℕ → List ℕ → Result Number Refusal → Type 0
+NumberInside n at s (Ok v) = (at ≤ v.next) × (v.next ≤ length s) × (v.value < 256 ^ n)
+NumberInside n at s (Err e) = number_of e ≤ 5
 
 -- a number of n bytes where b says that its bit stands, and else 0
-pub record NumberFound (n : ℕ) (b : Bool) (at : ℕ) (s : List ℕ) (r : NumberRead) : Type 0 where
+pub record NumberFound (n : ℕ) (b : Bool) (at : ℕ) (s : List ℕ) (r : Result Number Refusal) : Type 0 where
   pub answer : number_answer s r ≡ cond b (nonzero n) (give 0) (drop at s)
   pub inside : NumberInside n at s r
 
 -- a literal where b says that its bit stands, and else none
-pub record LiteralField (b : Bool) (at : ℕ) (s : List ℕ) (r : LiteralRead) : Type 0 where
+pub record LiteralField (b : Bool) (at : ℕ) (s : List ℕ) (r : Result Literal Refusal) : Type 0 where
   pub answer : literal_answer s r ≡ cond b literal (give []) (drop at s)
   pub inside : LiteralInside s at r
 
@@ -85,39 +76,39 @@ read_pattern m k =
     cond (bit_at 5 m) (nonzero 1 >>= λ v. ask (is_match k || leb v 1) 5 >>= λ _. give v) (give 0) >>= λ number.
     give (pattern, number)
 
-abbrev pub kind_answer : List ℕ → KindRead → Read (ℕ × ℕ)
-kind_answer s (kind.Found k) = got (k.map, k.kind) (drop k.next s)
-kind_answer s (kind.Refused r) = fault r
+abbrev pub kind_answer : List ℕ → Result Opened Refusal → Read (ℕ × ℕ)
+kind_answer s (Ok k) = got (k.map, kind_number k.kind) (drop k.next s)
+kind_answer s (Err e) = fault (number_of e)
 
-abbrev pub KindInside : List ℕ → KindRead → Type 0
-KindInside s (kind.Found k) = (1 ≤ k.next) × (k.next ≤ length s) × (k.kind ≤ 26)
-KindInside s (kind.Refused r) = r ≤ 5
+abbrev pub KindInside : List ℕ → Result Opened Refusal → Type 0
+KindInside s (Ok k) = (1 ≤ k.next) × (k.next ≤ length s)
+KindInside s (Err e) = number_of e ≤ 5
 
-pub record KindFound (s : List ℕ) (r : KindRead) : Type 0 where
+pub record KindFound (s : List ℕ) (r : Result Opened Refusal) : Type 0 where
   pub answer : kind_answer s r ≡ read_kind s
   pub inside : KindInside s r
 
-abbrev pub range_answer : List ℕ → RangeRead → Read (ℕ × ℕ × ℕ)
-range_answer s (range.Found v) = got (v.name, v.start, v.end) (drop v.next s)
-range_answer s (range.Refused r) = fault r
+abbrev pub range_answer : List ℕ → Result Range Refusal → Read (ℕ × ℕ × ℕ)
+range_answer s (Ok v) = got (v.name, v.start, v.end) (drop v.next s)
+range_answer s (Err e) = fault (number_of e)
 
-abbrev pub RangeInside : ℕ → List ℕ → RangeRead → Type 0
-RangeInside at s (range.Found v) = (at ≤ v.next) × (v.next ≤ length s)
-RangeInside at s (range.Refused r) = r ≤ 5
+abbrev pub RangeInside : ℕ → List ℕ → Result Range Refusal → Type 0
+RangeInside at s (Ok v) = (at ≤ v.next) × (v.next ≤ length s)
+RangeInside at s (Err e) = number_of e ≤ 5
 
-pub record RangeFound (m at : ℕ) (s : List ℕ) (r : RangeRead) : Type 0 where
+pub record RangeFound (m at : ℕ) (s : List ℕ) (r : Result Range Refusal) : Type 0 where
   pub answer : range_answer s r ≡ read_range m (drop at s)
   pub inside : RangeInside at s r
 
-abbrev pub pattern_answer : List ℕ → PatternRead → Read (ℕ × ℕ)
-pattern_answer s (chosen.Found v) = got (v.pattern, v.number) (drop v.next s)
-pattern_answer s (chosen.Refused r) = fault r
+abbrev pub pattern_answer : List ℕ → Result Chosen Refusal → Read (ℕ × ℕ)
+pattern_answer s (Ok v) = got (pattern_number v.pattern, v.number) (drop v.next s)
+pattern_answer s (Err e) = fault (number_of e)
 
-abbrev pub PatternInside : ℕ → List ℕ → PatternRead → Type 0
-PatternInside at s (chosen.Found v) = (at ≤ v.next) × (v.next ≤ length s)
-PatternInside at s (chosen.Refused r) = r ≤ 5
+abbrev pub PatternInside : ℕ → List ℕ → Result Chosen Refusal → Type 0
+PatternInside at s (Ok v) = (at ≤ v.next) × (v.next ≤ length s)
+PatternInside at s (Err e) = number_of e ≤ 5
 
-pub record PatternFound (m k at : ℕ) (s : List ℕ) (r : PatternRead) : Type 0 where
+pub record PatternFound (m k at : ℕ) (s : List ℕ) (r : Result Chosen Refusal) : Type 0 where
   pub answer : pattern_answer s r ≡ read_pattern m k (drop at s)
   pub inside : PatternInside at s r
 
@@ -127,45 +118,49 @@ pub record PatternFound (m k at : ℕ) (s : List ℕ) (r : PatternRead) : Type 0
 abbrev pub record_of : List ℕ → Head → Record
 record_of s h =
     record {
-      kind = h.kind;
+      kind = kind_number h.kind;
       name = h.name;
       start = h.start;
       end = h.end;
-      pattern = h.pattern;
+      pattern = pattern_number h.pattern;
       number = h.number;
       lit_a = take h.a.bits (unpack (drop h.a.at s));
       lit_b = take h.b.bits (unpack (drop h.b.at s));
     }
 
-abbrev pub head_answer : List ℕ → HeadRead → Read Record
-head_answer s (head.Found h) = got (record_of s h) (drop h.size s)
-head_answer s (head.Refused r) = fault r
+abbrev pub head_answer : List ℕ → Result Head Refusal → Read Record
+head_answer s (Ok h) = got (record_of s h) (drop h.size s)
+head_answer s (Err e) = fault (number_of e)
 
 -- its literals lie inside the bytes with all their bits, and it has at least its map byte
-abbrev pub HeadInside : List ℕ → HeadRead → Type 0
-HeadInside s (head.Found h) = (1 ≤ h.size) × (h.size ≤ length s) × (h.a.at + bytes_for h.a.bits ≤ length s) × (h.b.at + bytes_for h.b.bits ≤ length s) × (h.a.bits ≤ max_literal) × (h.b.bits ≤ max_literal)
-HeadInside s (head.Refused r) = r ≤ 5
+abbrev pub HeadInside : List ℕ → Result Head Refusal → Type 0
+HeadInside s (Ok h) = (1 ≤ h.size) × (h.size ≤ length s) × (h.a.at + bytes_for h.a.bits ≤ length s) × (h.b.at + bytes_for h.b.bits ≤ length s) × (h.a.bits ≤ max_literal) × (h.b.bits ≤ max_literal)
+HeadInside s (Err e) = number_of e ≤ 5
 
 -- the head of a record that is the kind k alone, in two bytes, whatever stands behind them
 pub record BareHead (k : ℕ) (h : Head) : Type 0 where
   pub same : (s : List ℕ) → record_of s h ≡ plain_record k
   pub size : h.size ≡ 2
-  pub inside : (s : List ℕ) → 2 ≤ length s → HeadInside s (head.Found h)
+  pub inside : (s : List ℕ) → 2 ≤ length s → HeadInside s (Ok h)
 
-pub record RecordFound (s : List ℕ) (r : HeadRead) : Type 0 where
+pub record RecordFound (s : List ℕ) (r : Result Head Refusal) : Type 0 where
   pub answer : head_answer s r ≡ read_record s
   pub inside : HeadInside s r
+
+-- the record from the byte at on, which has the index place
+abbrev pub RecordFoundAt : List ℕ → ℕ → ℕ → Result Head Refused → Type 0
+RecordFoundAt s at place (Ok h) = RecordFound (drop at s) (Ok h)
+RecordFoundAt s at place (Err e) = RecordFound (drop at s) (Err e.refusal) × (e.place ≡ place)
 
 -- ## Form
 
 -- the bytes and records that a tree takes: s is cut where it ends
-abbrev pub tree_answer : List ℕ → Formed → Answer (ℕ × List ℕ)
-tree_answer s (Good t) = ok (t.next, drop t.used s)
-tree_answer s (Refused r p) = refuse r p
+abbrev pub tree_answer : List ℕ → Result Taken Refused → Answer (ℕ × List ℕ)
+tree_answer s r = map_answer (λ t. (t.next, drop t.used s)) (answered r)
 
-abbrev pub TreeInside : List ℕ → Formed → Type 0
-TreeInside s (Good t) = (t.used ≤ length s) × (t.next ≤ max_records)
-TreeInside s (Refused r p) = r ≤ 8
+abbrev pub TreeInside : List ℕ → Result Taken Refused → Type 0
+TreeInside s (Ok t) = (t.used ≤ length s) × (t.next ≤ max_records)
+TreeInside s (Err e) = number_of e.refusal ≤ 8
 
 -- the tree at the front of the bytes: the index behind it, and the bytes that are left
 abbrev pub tree_from : ℕ → ℕ → List ℕ → Answer (ℕ × List ℕ)
@@ -177,7 +172,7 @@ trees_from d zero at bs = ok (at, bs)
 trees_from d (suc n) at bs = and_then (tree_from d at bs) λ r. trees_from d n r.0 r.1
 
 -- the answer x was found in the bytes s
-pub record TreeFormed (x : Answer (ℕ × List ℕ)) (s : List ℕ) (r : Formed) : Type 0 where
+pub record TreeFormed (x : Answer (ℕ × List ℕ)) (s : List ℕ) (r : Result Taken Refused) : Type 0 where
   pub answer : tree_answer s r ≡ x
   pub inside : TreeInside s r
 
@@ -198,9 +193,8 @@ pub record TreesAsked (n at place : ℕ) (s : List ℕ) : Type 0 where
   pub low : place ≤ max_records
 
 -- a good form: all bytes are used, and the records are counted
-abbrev pub form_answer : Formed → Answer (ℕ × ℕ)
-form_answer (Good t) = ok (t.used, t.next)
-form_answer (Refused r p) = refuse r p
+abbrev pub form_answer : Result Taken Refused → Answer (ℕ × ℕ)
+form_answer r = map_answer (λ t. (t.used, t.next)) (answered r)
 
 abbrev pub shape_of : List ℕ → Answer Expr → Answer (ℕ × ℕ)
 shape_of s x = map_answer (λ e. (length s, records e)) x
@@ -218,23 +212,11 @@ fragment_kind k = test_kind k || (eqb k 16 || (eqb k 22 || (leb 24 k && leb k 26
 abbrev pub FragmentOf : List ℕ → Bool → Type 0
 FragmentOf s r = (e : Expr) → decode s ≡ ok e → r ≡ is_test_fragment e
 
-abbrev pub fragment_answer : Fragment → Answer Bool
-fragment_answer (fragment.Is b) = ok b
-fragment_answer (fragment.Refused r p) = refuse r p
-
-abbrev pub fields_answer : FieldCount → Answer ℕ
-fields_answer (fields.Count n) = ok n
-fields_answer (fields.Refused r p) = refuse r p
-
-abbrev pub FieldsOf : List ℕ → FieldCount → Type 0
-FieldsOf s r = (e : Expr) → decode s ≡ ok e → fields_answer r ≡ num_fields e 0
+abbrev pub FieldsOf : List ℕ → Result ℕ Refused → Type 0
+FieldsOf s r = (e : Expr) → decode s ≡ ok e → answered r ≡ num_fields e 0
 
 -- what a record gives to the field count by itself, or none where field + 1 is beyond 32 bits
 abbrev pub own_fields : ℕ → ℕ → ℕ → Option ℕ
 own_fields k s e =
-    cond (leb 5 k && leb k 6) (cond (ltb (s + 1) (2 ^ 32)) (some (s + 1)) none)
-    (cond (eqb k 19 || (leb 23 k && leb k 25)) (some e) (some 0))
-
-abbrev pub own_answer : OwnFields → Option ℕ
-own_answer (own.Fields n) = some n
-own_answer own.Over = none
+    cond (leb 5 k && leb k 6) (cond (ltb (s + 1) (2 ^ 32)) (Some (s + 1)) None)
+    (cond (eqb k 19 || (leb 23 k && leb k 25)) (Some e) (Some 0))

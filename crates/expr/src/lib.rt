@@ -2,6 +2,7 @@
 #![tactic(auto)]
 
 pub mod form;
+pub mod kind;
 pub mod operations;
 pub mod records;
 pub mod replace;

@@ -1,60 +1,44 @@
 // One record of a term.
 ghost use Rattle.std.specs.Prelude.{◌≡◌, ◌≤◌, length};
+ghost use Rattle.expr.specs.Kinds.{kind_number, pattern_number};
 ghost use Rattle.expr.specs.Records.{fits_pattern};
-ghost use Rattle.expr.specs.Terms.{test_kind};
-ghost use Rattle.expr.specs.Results.{NumberFound, LiteralField, kind_map, none_foreign, KindFound, RangeFound, PatternFound, BareHead, RecordFound};
+ghost use Rattle.expr.specs.Results.{NumberFound, LiteralField, KindFound, RangeFound, PatternFound, BareHead, RecordFound, RecordFoundAt};
 
-use literals::{Literal, LiteralRead};
+use crate::kind::{Kind, Pattern};
+use literals::Literal;
+use refusals::{Refusal, Refused};
 
 // A record that was read, and its length in bytes.
-#[derive(Clone, Copy)]
+#[derive(Clone, Copy, Debug, PartialEq, Eq)]
 pub struct Head {
-    pub kind: u8,
+    pub kind: Kind,
     pub name: u32,
     pub start: u32,
     pub end: u32,
-    pub pattern: u32,
+    pub pattern: Pattern,
     pub number: u32,
     pub a: Literal,
     pub b: Literal,
     pub size: usize,
 }
 
-#[derive(Clone, Copy)]
-pub enum HeadRead {
-    Found(Head),
-    Refused(u8),
-}
-
 // A number that was read, and the byte behind it.
-#[derive(Clone, Copy)]
+#[derive(Clone, Copy, Debug, PartialEq, Eq)]
 pub struct Number {
     pub value: u32,
     pub next: usize,
 }
 
-#[derive(Clone, Copy)]
-pub enum NumberRead {
-    Value(Number),
-    Refused(u8),
-}
-
 // The map byte and the kind that were read, and the byte behind them.
-#[derive(Clone, Copy)]
-pub struct Kind {
+#[derive(Clone, Copy, Debug, PartialEq, Eq)]
+pub struct Opened {
     pub map: u8,
-    pub kind: u8,
+    pub kind: Kind,
     pub next: usize,
 }
 
-#[derive(Clone, Copy)]
-pub enum KindRead {
-    Found(Kind),
-    Refused(u8),
-}
-
 // The name, start and end that were read, and the byte behind them.
-#[derive(Clone, Copy)]
+#[derive(Clone, Copy, Debug, PartialEq, Eq)]
 pub struct Range {
     pub name: u32,
     pub start: u32,
@@ -62,132 +46,46 @@ pub struct Range {
     pub next: usize,
 }
 
-#[derive(Clone, Copy)]
-pub enum RangeRead {
-    Found(Range),
-    Refused(u8),
-}
-
 // The pattern and the number that were read, and the byte behind them.
-#[derive(Clone, Copy)]
+#[derive(Clone, Copy, Debug, PartialEq, Eq)]
 pub struct Chosen {
-    pub pattern: u32,
+    pub pattern: Pattern,
     pub number: u32,
     pub next: usize,
 }
 
-#[derive(Clone, Copy)]
-pub enum PatternRead {
-    Found(Chosen),
-    Refused(u8),
-}
-
-// The map bits that a kind has, bit 0 among them. A `match`, because a constant array is built anew on each call.
-fn kind_fields(kind: u8) -> u8
-    ensures { result ≡ kind_map kind }
-{
-    match kind {
-        5..=6 => 37,
-        18 | 20 => 3,
-        19 => 15,
-        21..=22 => 67,
-        23..=24 => 77,
-        25 => 253,
-        26 => 243,
-        _ => 1,
-    }
-}
-
-// Whether a core of this kind is a test where its operands are.
-pub fn is_test_kind(kind: u8) -> bool
-    ensures { result ≡ test_kind kind }
-{
-    match kind {
-        0..=1 | 6..=11 => true,
-        _ => false,
-    }
-}
-
-// Whether every bit of the map is one that the kind has.
-fn none_foreign(kind: u8, map: u8) -> bool
-    requires { kind ≤ 26 }
-    ensures { result ≡ none_foreign kind map }
-{
-    let fields = kind_fields(kind);
-    map | fields == fields
-}
-
-// A number of one byte where its bit stands, and else 0.
-fn number_of_one(s: &[u8], at: usize, stands: bool) -> NumberRead
-    requires { at ≤ length s.now }
-    ensures { NumberFound 1 stands at s.now result }
+// A number of N bytes where its bit stands, and else 0.
+#[tactic(auto, using(crate::proofs::Numbers::number_lacking, crate::proofs::Numbers::number_zero, crate::proofs::Numbers::number_value, crate::proofs::Numbers::spelled_none, crate::proofs::Numbers::spelled_small))]
+fn read_number<const N: usize>(s: &[u8], at: usize, stands: bool) -> Result<Number, Refusal>
+    requires { (at ≤ length s.now) × (N ≤ 4) }
+    ensures { NumberFound N stands at s.now result }
 {
     if !stands {
-        return NumberRead::Value(Number { value: 0, next: at });
+        return Ok(Number { value: 0, next: at });
     }
-    if s.len() - at < 1 {
-        return NumberRead::Refused(1);
+    if s.len() - at < N {
+        return Err(Refusal::EndsEarly);
     }
-    let value = s[at] as u32;
+    let mut value = 0;
+    for i in (0..N).rev() {
+        value = 256 * value + s[at + i] as u32;
+    }
     if value == 0 {
-        return NumberRead::Refused(4);
+        return Err(Refusal::ZeroWritten);
     }
-    NumberRead::Value(Number {
+    Ok(Number {
         value,
-        next: at + 1,
-    })
-}
-
-// A number of two bytes where its bit stands, and else 0.
-fn number_of_two(s: &[u8], at: usize, stands: bool) -> NumberRead
-    requires { at ≤ length s.now }
-    ensures { NumberFound 2 stands at s.now result }
-{
-    if !stands {
-        return NumberRead::Value(Number { value: 0, next: at });
-    }
-    if s.len() - at < 2 {
-        return NumberRead::Refused(1);
-    }
-    let value = s[at] as u32 + 256 * (s[at + 1] as u32);
-    if value == 0 {
-        return NumberRead::Refused(4);
-    }
-    NumberRead::Value(Number {
-        value,
-        next: at + 2,
-    })
-}
-
-// A number of four bytes where its bit stands, and else 0.
-fn number_of_four(s: &[u8], at: usize, stands: bool) -> NumberRead
-    requires { at ≤ length s.now }
-    ensures { NumberFound 4 stands at s.now result }
-{
-    if !stands {
-        return NumberRead::Value(Number { value: 0, next: at });
-    }
-    if s.len() - at < 4 {
-        return NumberRead::Refused(1);
-    }
-    let high = s[at + 2] as u32 + 256 * (s[at + 3] as u32);
-    let value = s[at] as u32 + 256 * (s[at + 1] as u32 + 256 * high);
-    if value == 0 {
-        return NumberRead::Refused(4);
-    }
-    NumberRead::Value(Number {
-        value,
-        next: at + 4,
+        next: at + N,
     })
 }
 
 // A literal where its bit stands, and else an empty one.
-fn literal_field(s: &[u8], at: usize, stands: bool) -> LiteralRead
+fn read_literal(s: &[u8], at: usize, stands: bool) -> Result<Literal, Refusal>
     requires { at ≤ length s.now }
     ensures { LiteralField stands at s.now result }
 {
     if !stands {
-        return LiteralRead::Found(Literal {
+        return Ok(Literal {
             at,
             bits: 0,
             next: at,
@@ -197,59 +95,48 @@ fn literal_field(s: &[u8], at: usize, stands: bool) -> LiteralRead
 }
 
 // Whether bits 5 and 7 of the map suit the pattern, for a kind that has one.
-fn suits_pattern(kind: u8, pattern: u32, map: u8) -> bool
-    ensures { result ≡ fits_pattern kind pattern map }
+fn suits_pattern(kind: Kind, pattern: Pattern, map: u8) -> bool
+    ensures { result ≡ fits_pattern (kind_number kind) (pattern_number pattern) map }
 {
-    let has_pattern = 25 <= kind;
     let prefix = map / 32 % 2 == 1;
     let second = map / 128 % 2 == 1;
-    !has_pattern | ((!prefix | (pattern == 1)) & (!second | (2 <= pattern)))
+    !kind.is_match()
+        || match pattern {
+            Pattern::Exact => !prefix && !second,
+            Pattern::Cidr => !second,
+            Pattern::Wildcard | Pattern::IpRange => !prefix,
+        }
 }
 
 // The map byte and the kind, with the refusals 1, 4, 2 and 3 on them.
-fn read_kind(s: &[u8]) -> KindRead
+fn read_kind(s: &[u8]) -> Result<Opened, Refusal>
     ensures { KindFound s.now result }
 {
-    if s.len() == 0 {
-        return KindRead::Refused(1);
+    if s.is_empty() {
+        return Err(Refusal::EndsEarly);
     }
     let map = s[0];
-    let kind = match number_of_one(s, 1, map % 2 == 1) {
-        NumberRead::Refused(number) => return KindRead::Refused(number),
-        NumberRead::Value(kind) => kind,
-    };
-    if 26 < kind.value {
-        return KindRead::Refused(2);
+    let number = read_number::<1>(s, 1, map % 2 == 1)?;
+    let kind = Kind::try_from(number.value as u8)?;
+    if !kind.allows(map) {
+        return Err(Refusal::ForeignField);
     }
-    let k = kind.value as u8;
-    if !none_foreign(k, map) {
-        return KindRead::Refused(3);
-    }
-    KindRead::Found(Kind {
+    Ok(Opened {
         map,
-        kind: k,
-        next: kind.next,
+        kind,
+        next: number.next,
     })
 }
 
 // The name, the start or field, and the end.
-fn read_range(s: &[u8], map: u8, at: usize) -> RangeRead
+fn read_range(s: &[u8], map: u8, at: usize) -> Result<Range, Refusal>
     requires { at ≤ length s.now }
     ensures { RangeFound map at s.now result }
 {
-    let name = match number_of_two(s, at, map / 2 % 2 == 1) {
-        NumberRead::Refused(number) => return RangeRead::Refused(number),
-        NumberRead::Value(name) => name,
-    };
-    let start = match number_of_four(s, name.next, map / 4 % 2 == 1) {
-        NumberRead::Refused(number) => return RangeRead::Refused(number),
-        NumberRead::Value(start) => start,
-    };
-    let end = match number_of_four(s, start.next, map / 8 % 2 == 1) {
-        NumberRead::Refused(number) => return RangeRead::Refused(number),
-        NumberRead::Value(end) => end,
-    };
-    RangeRead::Found(Range {
+    let name = read_number::<2>(s, at, map / 2 % 2 == 1)?;
+    let start = read_number::<4>(s, name.next, map / 4 % 2 == 1)?;
+    let end = read_number::<4>(s, start.next, map / 8 % 2 == 1)?;
+    Ok(Range {
         name: name.value,
         start: start.value,
         end: end.value,
@@ -258,84 +145,67 @@ fn read_range(s: &[u8], map: u8, at: usize) -> RangeRead
 }
 
 // The pattern and the number: bits 5 and 7 are judged between them.
-fn read_pattern(s: &[u8], map: u8, kind: u8, at: usize) -> PatternRead
+#[tactic(auto, using(crate::proofs::KindNumbers::pattern_small))]
+fn read_pattern(s: &[u8], map: u8, kind: Kind, at: usize) -> Result<Chosen, Refusal>
     requires { at ≤ length s.now }
-    ensures { PatternFound map kind at s.now result }
+    ensures { PatternFound map (kind_number kind) at s.now result }
 {
-    let pattern = match number_of_one(s, at, map / 16 % 2 == 1) {
-        NumberRead::Refused(number) => return PatternRead::Refused(number),
-        NumberRead::Value(pattern) => pattern,
-    };
-    if 3 < pattern.value {
-        return PatternRead::Refused(5);
+    let code = read_number::<1>(s, at, map / 16 % 2 == 1)?;
+    let pattern = Pattern::try_from(code.value as u8)?;
+    if !suits_pattern(kind, pattern, map) {
+        return Err(Refusal::ForeignField);
     }
-    if !suits_pattern(kind, pattern.value, map) {
-        return PatternRead::Refused(3);
+    let number = read_number::<1>(s, code.next, map / 32 % 2 == 1)?;
+    if !kind.is_match() && 1 < number.value {
+        return Err(Refusal::OutOfRange);
     }
-    let number = match number_of_one(s, pattern.next, map / 32 % 2 == 1) {
-        NumberRead::Refused(number) => return PatternRead::Refused(number),
-        NumberRead::Value(number) => number,
-    };
-    if !((25 <= kind) | (number.value <= 1)) {
-        return PatternRead::Refused(5);
-    }
-    PatternRead::Found(Chosen {
-        pattern: pattern.value,
+    Ok(Chosen {
+        pattern,
         number: number.value,
         next: number.next,
     })
 }
 
-// The head of a record that is a kind alone: bit 0 is its whole map.
-fn bare(kind: u8) -> Head
-    ensures { BareHead kind result }
-{
-    let none = Literal {
-        at: 2,
-        bits: 0,
-        next: 2,
-    };
-    Head {
-        kind,
-        name: 0,
-        start: 0,
-        end: 0,
-        pattern: 0,
-        number: 0,
-        a: none,
-        b: none,
-        size: 2,
+impl Head {
+    // The head of a record that is a kind alone: bit 0 is its whole map.
+    fn bare(kind: Kind) -> Self
+        ensures { BareHead (kind_number kind) result }
+    {
+        let none = Literal {
+            at: 2,
+            bits: 0,
+            next: 2,
+        };
+        Head {
+            kind,
+            name: 0,
+            start: 0,
+            end: 0,
+            pattern: Pattern::Exact,
+            number: 0,
+            a: none,
+            b: none,
+            size: 2,
+        }
     }
 }
 
-// The record at the front of the bytes. One that is a kind alone, as operators are, answers without a look at each field.
-pub fn read_record(s: &[u8]) -> HeadRead
+// The record at the front of the bytes. One that is a kind alone, as operators are, answers without a look at each field. Inlined in
+// `read_record_at`, it would build its answer and copy it: 5 % of a small term's instructions.
+#[tactic(auto, using(crate::proofs::Stages::kind_ends, crate::proofs::Stages::range_ends, crate::proofs::Stages::pattern_ends, crate::proofs::Stages::first_ends, crate::proofs::Stages::second_ends))]
+#[inline(never)]
+pub fn read_record(s: &[u8]) -> Result<Head, Refusal>
     ensures { RecordFound s.now result }
 {
-    let k = match read_kind(s) {
-        KindRead::Refused(number) => return HeadRead::Refused(number),
-        KindRead::Found(k) => k,
-    };
+    let k = read_kind(s)?;
     if k.map == 1 {
-        return HeadRead::Found(bare(k.kind));
+        return Ok(Head::bare(k.kind));
     }
-    let range = match read_range(s, k.map, k.next) {
-        RangeRead::Refused(number) => return HeadRead::Refused(number),
-        RangeRead::Found(range) => range,
-    };
-    let chosen = match read_pattern(s, k.map, k.kind, range.next) {
-        PatternRead::Refused(number) => return HeadRead::Refused(number),
-        PatternRead::Found(chosen) => chosen,
-    };
-    let a = match literal_field(s, chosen.next, k.map / 64 % 2 == 1) {
-        LiteralRead::Refused(number) => return HeadRead::Refused(number),
-        LiteralRead::Found(a) => a,
-    };
-    let b = match literal_field(s, a.next, k.map / 128 % 2 == 1) {
-        LiteralRead::Refused(number) => return HeadRead::Refused(number),
-        LiteralRead::Found(b) => b,
-    };
-    HeadRead::Found(Head {
+    let range = read_range(s, k.map, k.next)?;
+    let chosen = read_pattern(s, k.map, k.kind, range.next)?;
+    let a = read_literal(s, chosen.next, k.map / 64 % 2 == 1)?;
+    let b = read_literal(s, a.next, k.map / 128 % 2 == 1)?;
+    Ok(Head {
         kind: k.kind,
         name: range.name,
         start: range.start,
@@ -346,4 +216,13 @@ pub fn read_record(s: &[u8]) -> HeadRead
         b,
         size: b.next,
     })
+}
+
+// The record from the byte `at` on, which has the index `place` in its term.
+#[inline(always)]
+pub fn read_record_at(s: &[u8], at: usize, place: usize) -> Result<Head, Refused>
+    requires { at ≤ length s.now }
+    ensures { RecordFoundAt s.now at place result }
+{
+    read_record(&s[at..]).map_err(|refusal| refusal.at(place))
 }

@@ -1,19 +1,16 @@
 // Substitute: a variable gives way to a term wherever it does not lie in the body of a Let or LetBitRange of its name. A first walk measures
 // the result, a second writes it.
-ghost use Rattle.std.specs.Prelude.{◌≡◌, true, not, ◌&&◌, ◌+◌, ◌≤◌, max, length};
+ghost use Rattle.std.specs.Prelude.{◌≡◌, true, ◌+◌, ◌≤◌, length};
+ghost use Rattle.expr.specs.Kinds.{kind_number};
 ghost use Rattle.expr.specs.Replaced.{SubstitutedAs, Decodes, named, swap, swap_all, pasted, Ready, Done, ReadyAll, DoneAll};
 
-use crate::form::{Formed, MAX_DEPTH, MAX_RECORDS};
-use crate::records::HeadRead;
+use crate::form::{MAX_DEPTH, MAX_RECORDS};
+use crate::kind::Kind;
+use refusals::{Refusal, Refused};
 
-#[derive(Clone, Copy)]
-pub enum Substituted {
-    Length(usize),
-    Refused(u8, usize),
-}
-
-// What is replaced: the variable, the records and levels of what is put for it, and whether the result is written or only measured.
-#[derive(Clone, Copy)]
+// What is replaced: the variable, the records and levels of what is put for it, and whether the result is written or only measured: a flag, as
+// a closure that writes would pass through each call of the recursion in the place of `out`, and be called nowhere else.
+#[derive(Clone, Copy, Debug, PartialEq, Eq)]
 pub struct Job {
     pub name: u16,
     pub records: usize,
@@ -22,8 +19,8 @@ pub struct Job {
 }
 
 // How many bytes of the term are used, where the result goes on, and its records and levels.
-#[derive(Clone, Copy)]
-pub struct Went {
+#[derive(Clone, Copy, Debug, PartialEq, Eq)]
+pub struct Walked {
     pub used: usize,
     pub to: usize,
     pub records: usize,
@@ -31,46 +28,22 @@ pub struct Went {
 }
 
 // Whether a record is of a kind and of a name.
-fn is_named(kind: u8, name: u32, of: u8, x: u16) -> bool
-    ensures { result ≡ named kind name of x }
+fn is_named(kind: Kind, name: u32, of: Kind, x: u16) -> bool
+    ensures { result ≡ named (kind_number kind) name (kind_number of) x }
 {
-    if kind == of { name == x as u32 } else { false }
+    kind == of && name == u32::from(x)
 }
 
-// Both of two.
-fn both(a: bool, b: bool) -> bool
-    ensures { result ≡ (a && b) }
-{
-    if a { b } else { false }
-}
-
-// The first, and not the second.
-fn unless(a: bool, b: bool) -> bool
-    ensures { result ≡ (a && not b) }
-{
-    if a { !b } else { false }
-}
-
-// The larger of two.
-fn larger(a: usize, b: usize) -> usize
-    ensures { result ≡ max a b }
-{
-    if a < b { b } else { a }
-}
-
-// Writes the bytes at a place, if they are to be written.
+// Writes the bytes at a place, if they are to be written. A loop: `copy_from_slice` calls memmove, and the archive needs nothing of the C library
+// but memset.
 fn copy(from: &[u8], out: &mut [u8], at: usize, write: bool)
     requires { write ≡ true → at + length from.now ≤ length out.old }
     ensures { out.new ≡ pasted write at from.now out.old }
 {
-    if !write {
-        return;
-    }
-    let n = from.len();
-    let mut i = 0;
-    while i < n {
-        out[at + i] = from[i];
-        i += 1;
+    if write {
+        for i in 0..from.len() {
+            out[at + i] = from[i];
+        }
     }
 }
 
@@ -78,26 +51,26 @@ fn copy(from: &[u8], out: &mut [u8], at: usize, write: bool)
 // that the variable is replaced in it. The result goes to `to`.
 // A record can always be read, for the bytes are of good form.
 #[cycle(walk_walk_all)]
-fn walk(s: &[u8], left: usize, live: bool, job: Job, by: &[u8], out: &mut [u8], to: usize) -> Went
+fn walk(s: &[u8], left: usize, live: bool, job: Job, by: &[u8], out: &mut [u8], to: usize) -> Walked
     requires { Ready s.now left live job by.now out.old to }
     ensures { (q : Ready s.now left live job by.now out.old to)
         → Done q.term (swap job.name q.by live q.term) job out.old out.new to result }
 {
-    let head = match crate::records::read_record(s) {
-        HeadRead::Refused(_) => return Went {
+    let Ok(head) = crate::records::read_record(s) else {
+        return Walked {
             used: 0,
             to,
             records: 0,
             depth: 0,
-        },
-        HeadRead::Found(head) => head,
+        };
     };
     let kind = head.kind;
     let size = head.size;
-    if both(live, is_named(kind, head.name, 20, job.name)) {
+    let hit = live & is_named(kind, head.name, Kind::Var, job.name);
+    if hit {
         copy(by, out, to, job.write);
         let end = to + by.len();
-        return Went {
+        return Walked {
             used: size,
             to: end,
             records: job.records,
@@ -105,10 +78,10 @@ fn walk(s: &[u8], left: usize, live: bool, job: Job, by: &[u8], out: &mut [u8], 
         };
     }
     copy(&s[..size], &mut *out, to, job.write);
-    let first = unless(live, is_named(kind, head.name, 19, job.name));
-    let others = unless(live, is_named(kind, head.name, 18, job.name));
-    let count = crate::form::arity(kind);
-    let done = Went {
+    let first = live & !is_named(kind, head.name, Kind::LetBitRange, job.name);
+    let others = live & !is_named(kind, head.name, Kind::Let, job.name);
+    let count = kind.arity();
+    let done = Walked {
         used: size,
         to: to + size,
         records: 1,
@@ -122,7 +95,7 @@ fn walk(s: &[u8], left: usize, live: bool, job: Job, by: &[u8], out: &mut [u8], 
 #[cycle(walk_walk_all)]
 fn walk_all(
     s: &[u8],
-    done: Went,
+    done: Walked,
     count: usize,
     left: usize,
     first: bool,
@@ -130,34 +103,32 @@ fn walk_all(
     job: Job,
     by: &[u8],
     out: &mut [u8],
-) -> Went
+) -> Walked
     requires { ReadyAll s.now done count left first others job by.now out.old }
     ensures { (q : ReadyAll s.now done count left first others job by.now out.old)
         → DoneAll q.terms (swap_all job.name q.by first others q.terms) job out.old out.new done result }
 {
     let mut done = done;
     let mut live = first;
-    let mut due = count;
-    while 0 < due {
+    for _ in 0..count {
         let used = done.used;
         let a = walk(&s[used..], left, live, job, by, &mut *out, done.to);
-        let depth = larger(done.depth, 1 + a.depth);
+        let depth = done.depth.max(1 + a.depth);
         let records = done.records + a.records;
         let behind = used + a.used;
-        done = Went {
+        done = Walked {
             used: behind,
             to: a.to,
             records,
             depth,
         };
         live = others;
-        due -= 1;
     }
     done
 }
 
 // A term of good form with the variable replaced by another: the result is measured, and written where it fits.
-fn replace(term: &[u8], name: u16, by: &[u8], out: &mut [u8]) -> Substituted
+fn replace(term: &[u8], name: u16, by: &[u8], out: &mut [u8]) -> Result<usize, Refused>
     requires { Decodes term.now × Decodes by.now }
     ensures { SubstitutedAs term.now name by.now out.old out.new result }
 {
@@ -169,45 +140,40 @@ fn replace(term: &[u8], name: u16, by: &[u8], out: &mut [u8]) -> Substituted
     };
     let b = walk(by, MAX_DEPTH, false, alone, by, &mut *out, 0);
     let measuring = Job {
-        name,
         records: b.records,
         depth: b.depth,
-        write: false,
+        ..alone
     };
     let m = walk(term, MAX_DEPTH, true, measuring, by, &mut *out, 0);
     if MAX_RECORDS < m.records {
-        return Substituted::Refused(27, 0);
+        return Err(Refusal::ResultTooLarge.at(0));
     }
     if MAX_DEPTH < m.depth {
-        return Substituted::Refused(27, 0);
+        return Err(Refusal::ResultTooLarge.at(0));
     }
     if out.len() < m.to {
-        return Substituted::Refused(26, 0);
+        return Err(Refusal::BufferTooShort.at(0));
     }
     let writing = Job {
-        name,
-        records: b.records,
-        depth: b.depth,
         write: true,
+        ..measuring
     };
     let w = walk(term, MAX_DEPTH, true, writing, by, out, 0);
-    Substituted::Length(w.to)
+    Ok(w.to)
 }
 
 // The term with each occurrence of the variable `name` replaced that does not lie in the body of a Let or LetBitRange of that name.
-pub fn substitute(term: &[u8], name: u16, replacement: &[u8], out: &mut [u8]) -> Substituted
+pub fn substitute(
+    term: &[u8],
+    name: u16,
+    replacement: &[u8],
+    out: &mut [u8],
+) -> Result<usize, Refused>
     ensures { SubstitutedAs term.now name replacement.now out.old out.new result }
 {
-    match crate::form::form(term) {
-        Formed::Refused(number, at) => return Substituted::Refused(number, at),
-        Formed::Good(_) => {}
-    }
-    match crate::form::form(replacement) {
-        Formed::Refused(number, at) => {
-            let raised = 30 + number;
-            return Substituted::Refused(raised, at);
-        }
-        Formed::Good(_) => {}
+    crate::form::form(term)?;
+    if let Err(e) = crate::form::form(replacement) {
+        return Err(e.refusal.of_replacement().at(e.place));
     }
     replace(term, name, replacement, out)
 }

@@ -12,18 +12,20 @@ use lib.Seq.{take_all, get_or-drop}
 use Rattle.literals.specs.Bits.{Bits, bit, value_of}
 use Rattle.literals.specs.Comparing.{order_of, equal_above, looked_at, SameTop, TopDecides, StopsWhenDecided}
 use Rattle.literals.specs.Results.{ComparedAs}
-use Rattle.literals.specs.declared.Order.{Order}
-use Rattle.literals.specs.declared.Order.TheVariants.{Below, Equal, Above}
+use Rattle.std.specs.Ordering.{bool_cmp, ordering_index}
+use Rattle.std.specs.Bool.{◌==◌}
+use Rattle.std.specs.declared.cmp.Ordering.{Ordering}
+use Rattle.std.specs.declared.cmp.Ordering.TheVariants.{Less, Equal, Greater}
 use Rattle.literals.proofs.Logic.{beq_is, ne_not}
 use Rattle.literals.proofs.Bytes.{value_below_take}
 use Rattle.literals.proofs.Values.{value_of_take}
 
 -- ## Orders
 
-order_below : (x y : ℕ) → x < y → order_of x y ≡ Below
+order_below : (x y : ℕ) → x < y → order_of x y ≡ Less
 order_below x y h = rw (lt-ltb x y h)
 
-order_above : (x y : ℕ) → y < x → order_of x y ≡ Above
+order_above : (x y : ℕ) → y < x → order_of x y ≡ Greater
 order_above x y h = rw (le-ltb x y (omega arith), ne_eqb x y (λ e. omega arith))
 
 order_equal : (x y : ℕ) → x ≡ y → order_of x y ≡ Equal
@@ -37,10 +39,10 @@ order_both x y k = go (dec_lt x y) (dec_lt y x)
     go (no h) (yes g) = order_above (x + k) (y + k) (omega arith) ∙ sym (order_above x y g)
     go (no h) (no g) = order_equal (x + k) (y + k) (omega arith) ∙ sym (order_equal x y (omega arith))
 
-abbrev pub is_equal : Order → Bool
-is_equal Below = false
+abbrev pub is_equal : Ordering → Bool
+is_equal Less = false
 is_equal Equal = true
-is_equal Above = false
+is_equal Greater = false
 
 -- ## One bit on top
 
@@ -53,11 +55,11 @@ order_same i a b e =
 
 -- one that differs decides
 order_differs : (i : ℕ) (a b : Bits) {x : Bool} → get_or a i false ≡ x → get_or b i false ≡ not x
-    → order_of (value_of (take (suc i) a)) (value_of (take (suc i) b)) ≡ cond x Above Below
+    → order_of (value_of (take (suc i) a)) (value_of (take (suc i) b)) ≡ cond x Greater Less
 order_differs i a b {x} e f =
     rw (← add-one i, value_of_take i a e, value_of_take i b f) (go x)
   where
-    go : (t : Bool) → order_of (value_of (take i a) + 2 ^ i * bit t) (value_of (take i b) + 2 ^ i * bit (not t)) ≡ cond t Above Below
+    go : (t : Bool) → order_of (value_of (take i a) + 2 ^ i * bit t) (value_of (take i b) + 2 ^ i * bit (not t)) ≡ cond t Greater Less
     go true = order_above (value_of (take i a) + 2 ^ i * 1) (value_of (take i b) + 2 ^ i * 0) (omega (arith, value_below_take i b))
     go false = order_below (value_of (take i a) + 2 ^ i * 0) (value_of (take i b) + 2 ^ i * 1) (omega (arith, value_below_take i a))
 
@@ -106,7 +108,7 @@ module _ (w : ℕ) (a b : Bits) where
         apart true = refl
         apart false = refl
 
-    order_first : length a ≤ w → length b ≤ w → order_of (value_of a) (value_of b) ≡ cond x Above Below
+    order_first : length a ≤ w → length b ≤ w → order_of (value_of a) (value_of b) ≡ cond x Greater Less
     order_first k l =
         (λ i. order_of (value_of (sym (take_all w a k) i)) (value_of (sym (take_all w b l) i)))
         ∙ order_top a b w n (omega arith) s
@@ -152,7 +154,7 @@ module _ {w n : ℕ} {a b : Bits} (c : Comparing w n a b) where
             let at : i ≡ w - (n + 1) = omega arith in
             rw at (sym e ∙ (beq_is x y).0 (not-false _ t) ∙ f)
 
-    pub comparing_differs : {o : Order} → not (beq x y) ≡ true → o ≡ cond x Above Below → ComparedAs w a b (record { order = o; looked = n + 1 })
+    pub comparing_differs : {o : Ordering} → not (beq x y) ≡ true → o ≡ cond x Greater Less → ComparedAs w a b (record { order = o; looked = n + 1 })
     comparing_differs t g =
         let opposite : get_or b (w - (n + 1)) false ≡ not x = sym f ∙ ne_not x y (λ h. true≢false (sym ((beq_is x y).1 h) ∙ not-true _ t)) in
         record {
@@ -164,6 +166,22 @@ module _ {w n : ℕ} {a b : Bits} (c : Comparing w n a b) where
   comparing_end h =
       let same : SameTop w w a b = λ i l k. c.equal i (omega arith) k in
       record { order = sym (order_none w a b same c.short.0 c.short.1); looked = sym (looked_none w a b same) }
+
+-- the loop goes down to bit i - 1
+module _ {w i : ℕ} {a b : Bits} (h : 0 < i) (l : i ≤ w) (c : Comparing w (w - i) a b) where
+  pub comparing_found : {o : Ordering} {x y : Bool} → x ≡ get_or a (i - 1) false → y ≡ get_or b (i - 1) false
+      → o ≡ bool_cmp x y → true ≡ not (ordering_index o == 1) → ComparedAs w a b (record { order = o; looked = w - (i - 1) })
+  comparing_found {o} {x} {y} e f g t =
+      let place : w - (w - i + 1) ≡ i - 1 = omega arith in
+      let count : w - (i - 1) ≡ w - i + 1 = omega arith in
+      rw count (go x y (rw place e) (rw place f) g)
+    where
+      go : (x y : Bool) → x ≡ get_or a (w - (w - i + 1)) false → y ≡ get_or b (w - (w - i + 1)) false → o ≡ bool_cmp x y
+          → ComparedAs w a b (record { order = o; looked = w - i + 1 })
+      go true false e f g = comparing_differs c (omega arith) e f refl g
+      go false true e f g = comparing_differs c (omega arith) e f refl g
+      go true true e f g = absurd (true≢false (t ∙ ap (λ q. not (ordering_index q == 1)) g))
+      go false false e f g = absurd (true≢false (t ∙ ap (λ q. not (ordering_index q == 1)) g))
 
 -- ## Which of the two it is
 
@@ -235,7 +253,7 @@ module _ (w : ℕ) (a b : Bits) (k : length a ≤ w) (l : length b ≤ w) where
   undecided n h s t =
       let alike : order_of (value_of a) (value_of b) ≡ Equal =
       sym (t a a k k (λ i g j. refl) (λ i g j. sym (s i g j))) ∙ order_equal (value_of a) (value_of a) refl in
-      let apart : order_of (value_of a) (value_of b) ≡ Above =
+      let apart : order_of (value_of a) (value_of b) ≡ Greater =
       sym (t (true ∷ drop 1 a) (false ∷ drop 1 a) fits fits (lowest true) (λ i g j. sym (s i g j) ∙ lowest false i g j))
       ∙ order_above (1 + 2 * value_of (drop 1 a)) (0 + 2 * value_of (drop 1 a)) (omega arith) in
       true≢false (ap is_equal (sym alike ∙ apart))

@@ -3,12 +3,12 @@ use mathlib.Core.{Path.◌≡◌, Bool.beq, Bool.false, Bool.cond}
 use Rattle.std.specs.Prelude.{ℕ, zero, suc, ◌+◌, ◌-◌, ◌≤◌, ◌<◌}
 use lib.{Dec.ltb, Dec.eqb, ListN.length, ListN.get_or}
 use Rattle.literals.specs.{Bits.Bits, Bits.value_of}
-use Rattle.literals.specs.declared.Order.{Order}
-use Rattle.literals.specs.declared.Order.TheVariants.{Below, Equal, Above}
+use Rattle.std.specs.declared.cmp.Ordering.{Ordering}
+use Rattle.std.specs.declared.cmp.Ordering.TheVariants.{Less, Equal, Greater}
 
 -- how one number stands to another
-abbrev pub order_of : ℕ → ℕ → Order
-order_of a b = cond (ltb a b) Below (cond (eqb a b) Equal Above)
+abbrev pub order_of : ℕ → ℕ → Ordering
+order_of a b = cond (ltb a b) Less (cond (eqb a b) Equal Greater)
 
 -- "the equal bits above that one": how many of a field's w bits are equal, from the top bit down to the first that differs. A bound that is
 -- shorter than the field has false bits there

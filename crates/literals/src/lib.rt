@@ -1,41 +1,36 @@
 // Literals: bits packed in bytes, lowest bit first. A literal is given by the bytes that its bits begin in, and how many bits it has.
 #![tactic(auto)]
 
-ghost use Rattle.std.specs.Prelude.{◌≡◌, false, cond, ◌+◌, ◌^◌, ◌≤◌, eqb, length, get_or, take};
+ghost use Rattle.std.specs.Prelude.{◌≡◌, false, ◌+◌, ◌^◌, ◌≤◌, eqb, length, get_or};
 ghost use Rattle.literals.specs.Bits.{value_of, unpack};
 ghost use Rattle.literals.specs.Reading.{lent};
-ghost use Rattle.literals.specs.Results.{LiteralFound, ComparedAs, lent_answer};
-ghost use Rattle.literals.specs.declared.Order.TheVariants.{Below, Above};
+ghost use Rattle.literals.specs.Results.{literal_bits, LiteralFound, ComparedAs, LentFound};
+
+use refusals::Refusal;
+use std::cmp::Ordering;
 
 // The longest literal, in bits.
 pub const MAX_LITERAL: usize = 192;
 
-// A literal that was read: the byte at which its bits begin, how many they are, and the byte behind it.
-#[derive(Clone, Copy)]
+// Where a literal was read: the byte at which its bits begin, how many they are, and the byte behind it.
+#[derive(Clone, Copy, Debug, PartialEq, Eq)]
 pub struct Literal {
     pub at: usize,
     pub bits: usize,
     pub next: usize,
 }
 
-#[derive(Clone, Copy)]
-pub enum LiteralRead {
-    Found(Literal),
-    Refused(u8),
-}
-
-// How one number stands to another.
-#[derive(Clone, Copy)]
-pub enum Order {
-    Below,
-    Equal,
-    Above,
+// A literal: so many bits at the front of some bytes. Beyond the last of them its bits are false.
+#[derive(Clone, Copy, Debug)]
+pub struct BitSlice<'a> {
+    pub bytes: &'a [u8],
+    pub len: usize,
 }
 
 // How one bound stands to another, and how many of the field's bits were looked at for that.
-#[derive(Clone, Copy)]
+#[derive(Clone, Copy, Debug, PartialEq, Eq)]
 pub struct Compared {
-    pub order: Order,
+    pub order: Ordering,
     pub looked: usize,
 }
 
@@ -52,125 +47,105 @@ pub fn bit_at(bytes: &[u8], i: usize) -> bool
     (byte >> shift) % 2 == 1
 }
 
-// The bit at an index of a literal, and false beyond its last.
-pub fn literal_bit(bytes: &[u8], bits: usize, i: usize) -> bool
-    ensures { result ≡ get_or (take bits (unpack bytes.now)) i false }
-{
-    if bits <= i {
-        return false;
-    }
-    bit_at(bytes, i)
-}
-
 // The literal whose length byte is at `at`.
 #[tactic(auto, using(crate::proofs::Values::read_zero, crate::proofs::Values::read_long, crate::proofs::Values::read_lacking, crate::proofs::Values::read_spare, crate::proofs::Values::read_got, crate::proofs::Values::last_place))]
-pub fn read_literal(s: &[u8], at: usize) -> LiteralRead
+pub fn read_literal(s: &[u8], at: usize) -> Result<Literal, Refusal>
     requires { at ≤ length s.now }
     ensures { LiteralFound s.now at result }
 {
     if s.len() <= at {
-        return LiteralRead::Refused(1);
+        return Err(Refusal::EndsEarly);
     }
     let bits = s[at] as usize;
     if bits == 0 {
-        return LiteralRead::Refused(4);
+        return Err(Refusal::ZeroWritten);
     }
     if MAX_LITERAL < bits {
-        return LiteralRead::Refused(5);
+        return Err(Refusal::OutOfRange);
     }
     let first = at + 1;
     let bytes = (bits + 7) / 8;
     if s.len() - first < bytes {
-        return LiteralRead::Refused(1);
+        return Err(Refusal::EndsEarly);
     }
     let next = first + bytes;
     let spare = bytes * 8 - bits;
     let last = s[next - 1] as u32;
     if 0 < last >> (8 - spare) {
-        return LiteralRead::Refused(4);
+        return Err(Refusal::ZeroWritten);
     }
-    LiteralRead::Found(Literal {
+    Ok(Literal {
         at: first,
         bits,
         next,
     })
 }
 
-// Why the front of some bytes is no literal of so many bits that a host may lend: the refusal's number, or 0 where it is one.
-#[tactic(auto, using(crate::proofs::Values::lent_long, crate::proofs::Values::lent_lacking, crate::proofs::Values::lent_got))]
-pub fn lent_refusal(bytes: &[u8], bits: u32) -> u8
-    ensures { lent_answer bytes.now bits result ≡ lent bits bytes.now }
-{
-    let length = bits as usize;
-    if MAX_LITERAL < length {
-        return 5;
-    }
-    if bytes.len() < (length + 7) / 8 {
-        return 1;
-    }
-    0
-}
-
-// Whether a literal's value is 0.
-pub fn is_zero(bytes: &[u8], bits: usize) -> bool
-    ensures { result ≡ eqb (value_of (take bits (unpack bytes.now))) 0 }
-{
-    let mut i = 0;
-    while i < bits {
-        if literal_bit(bytes, bits, i) {
-            return false;
+impl<'a> BitSlice<'a> {
+    // A literal of so many bits that a host lends at the front of some bytes.
+    #[tactic(auto, using(crate::proofs::Values::lent_long, crate::proofs::Values::lent_lacking, crate::proofs::Values::lent_got))]
+    pub fn lent(bytes: &'a [u8], bits: u32) -> Result<Self, Refusal>
+        ensures { LentFound bits bytes.now result }
+    {
+        let len = bits as usize;
+        if MAX_LITERAL < len {
+            return Err(Refusal::OutOfRange);
         }
-        i += 1;
-    }
-    true
-}
-
-// Whether a literal's value is the highest of a width.
-pub fn is_highest(bytes: &[u8], bits: usize, width: usize) -> bool
-    requires { bits ≤ width }
-    ensures { result ≡ eqb (value_of (take bits (unpack bytes.now)) + 1) (2 ^ width) }
-{
-    let mut i = 0;
-    while i < width {
-        if !literal_bit(bytes, bits, i) {
-            return false;
+        if bytes.len() < (len + 7) / 8 {
+            return Err(Refusal::EndsEarly);
         }
-        i += 1;
+        Ok(BitSlice { bytes, len })
     }
-    true
-}
 
-// How two numbers stand to each other that are equal above a bit and differ in it: by that bit of the first.
-fn order_at(x: bool) -> Order
-    ensures { result ≡ cond x Above Below }
-{
-    if x {
-        return Order::Above;
+    // The bit at an index, and false beyond the last.
+    pub fn bit(self, i: usize) -> bool
+        ensures { result ≡ get_or (literal_bits self.entry) i false }
+    {
+        i < self.len && bit_at(self.bytes, i)
     }
-    Order::Below
-}
 
-// How two bounds of at most `width` bits stand to each other by value, from the top bit of the field down to the first that differs.
-pub fn compare(a: &[u8], a_bits: usize, b: &[u8], b_bits: usize, width: usize) -> Compared
-    requires { (a_bits ≤ width) × (b_bits ≤ width) }
-    ensures { ComparedAs width (take a_bits (unpack a.now)) (take b_bits (unpack b.now)) result }
-{
-    let mut equal = 0;
-    while equal < width {
-        let looked = equal + 1;
-        let i = width - looked;
-        let x = literal_bit(a, a_bits, i);
-        let y = literal_bit(b, b_bits, i);
-        if x != y {
-            return Compared {
-                order: order_at(x),
-                looked,
-            };
+    // Whether the value is 0.
+    pub fn is_zero(self) -> bool
+        ensures { result ≡ eqb (value_of (literal_bits self.entry)) 0 }
+    {
+        for i in 0..self.len {
+            if self.bit(i) {
+                return false;
+            }
         }
-        equal = looked;
+        true
     }
-    Compared {
-        order: Order::Equal,
-        looked: width,
+
+    // Whether the value is the highest of a width.
+    pub fn is_highest(self, width: usize) -> bool
+        requires { self.len ≤ width }
+        ensures { result ≡ eqb (value_of (literal_bits self.entry) + 1) (2 ^ width) }
+    {
+        for i in 0..width {
+            if !self.bit(i) {
+                return false;
+            }
+        }
+        true
+    }
+
+    // How two bounds of at most `width` bits stand to each other by value, from the top bit of the field down to the first that differs.
+    pub fn compare(self, other: Self, width: usize) -> Compared
+        requires { (self.len ≤ width) × (other.len ≤ width) }
+        ensures { ComparedAs width (literal_bits self.entry) (literal_bits other.entry) result }
+    {
+        for i in (0..width).rev() {
+            let order = self.bit(i).cmp(&other.bit(i));
+            if order != Ordering::Equal {
+                return Compared {
+                    order,
+                    looked: width - i,
+                };
+            }
+        }
+        Compared {
+            order: Ordering::Equal,
+            looked: width,
+        }
     }
 }

@@ -5,6 +5,9 @@ use mathlib.Core.List.{List, [], ◌∷◌, append-nil}
 use Prim.Native.Nat.{ℕ, ◌+◌, ◌-◌, ◌*◌, ◌≤◌}
 use native.Mathlib.Omega.{arith}
 use lib.ListN.{length}
+use Rattle.std.specs.Prelude.{Result, Ok}
+use Rattle.refusals.specs.declared.Refused.{Refused}
+use Rattle.expr.specs.Kinds.{kind_number}
 use Rattle.expr.specs.Answers.{Answer, and_then, ok}
 use Rattle.expr.specs.Form.{Node, node0, node1, node2, node3, node_of, decode, encode, max_depth}
 use Rattle.expr.specs.Replaced.{encode_all}
@@ -20,10 +23,10 @@ use Rattle.desugar.specs.BindingWords.{Bound}
 use Rattle.desugar.specs.WalkWords.{TermAt, TermsAt}
 use Rattle.desugar.proofs.Regions.{kept_all}
 use Rattle.desugar.proofs.WalkLaws.{in_part}
-use Rattle.desugar.proofs.Dispatch.{alone, from_part, kind_low, levels_left, one_kid, two_kids, three_kids}
+use Rattle.desugar.proofs.Dispatch.{alone, from_part, levels_left, one_kid, two_kids, three_kids}
 use Rattle.netkat.specs.Check.{check, check_bytes}
 use Rattle.netkat.specs.CheckWords.{check_walk, flags, Frames, CheckReady, CheckRoom, CheckOne, CheckTwo, CheckThree, SortReady, CheckedAs}
-use Rattle.netkat.specs.declared.check.Walked.{Walked}
+use Rattle.netkat.specs.declared.check.Sorted.{Sorted}
 use Rattle.netkat.proofs.CheckWalk.{check_is_walk}
 use Rattle.netkat.proofs.CheckLaws.{frames_moved}
 
@@ -47,14 +50,14 @@ module _ {s xs : List ℕ} {at levels last top : ℕ} (place : ℕ) (q : CheckRe
   kids_frames = frames_moved q.frames (kept_all last xs) (omega arith) q.frames.below (omega (arith, some_left))
 
   -- what is told, with bytes counted from the term's first
-  abbrev Told : List ℕ → Walked → Expr → ℕ → ℕ → Type 0
+  abbrev Told : List ℕ → Result Sorted Refused → Expr → ℕ → ℕ → Type 0
   Told ys r e used next = CheckedAs (check_walk q.env e place) (at + used) next top xs ys r
 
-  abbrev Term : List ℕ → Walked → Type 0
+  abbrev Term : List ℕ → Result Sorted Refused → Type 0
   Term ys r = Told ys r e (length (encode e)) (place + records e)
 
   -- bytes that are counted from the front, counted from the term's first
-  counted : (f : Expr) (ys : List ℕ) (r : Walked) (u next : ℕ) → CheckedAs (check_walk q.env f place) (at + h.size + u) next top xs ys r → Told ys r f (h.size + u) next
+  counted : (f : Expr) (ys : List ℕ) (r : Result Sorted Refused) (u next : ℕ) → CheckedAs (check_walk q.env f place) (at + h.size + u) next top xs ys r → Told ys r f (h.size + u) next
   counted f ys r u next = subst (λ n. CheckedAs (check_walk q.env f place) n next top xs ys r) (omega arith)
 
   abbrev one_ready : (b : Expr) → TermsAt (part at s) h.size (levels - 1) (place + 1) (b ∷ []) → CheckOne s (at + h.size) (levels - 1) place last top xs
@@ -76,13 +79,13 @@ module _ {s xs : List ℕ} {at levels last top : ℕ} (place : ℕ) (q : CheckRe
   pub three_asked : {f : Expr → Expr → Expr → Expr} → node ≡ node3 f → CheckThree s (at + h.size) (levels - 1) place last top xs
   three_asked n = three_kids e text k (λ _ _ _. CheckThree s (at + h.size) (levels - 1) place last top xs) n three_ready
 
-  pub one_done : {f : Expr → Expr} (ys : List ℕ) (r : Walked) → node ≡ node1 f
+  pub one_done : {f : Expr → Expr} (ys : List ℕ) (r : Result Sorted Refused) → node ≡ node1 f
       → ((p : CheckOne s (at + h.size) (levels - 1) place last top xs)
       → CheckedAs (check_walk p.env (f p.first) place) (at + h.size + length (encode p.first)) (place + 1 + records p.first) top xs ys r)
       → Term ys r
   one_done {f} ys r n v = one_kid e text k (Told ys r) n (λ b t. counted (f b) ys r (length (encode b)) (place + 1 + records b) (v (one_ready b t)))
 
-  pub two_done : {f : Expr → Expr → Expr} (ys : List ℕ) (r : Walked) → node ≡ node2 f
+  pub two_done : {f : Expr → Expr → Expr} (ys : List ℕ) (r : Result Sorted Refused) → node ≡ node2 f
       → ((p : CheckTwo s (at + h.size) (levels - 1) place last top xs)
       → CheckedAs (check_walk p.env (f p.first p.second) place) (at + h.size + length (encode_all (p.first ∷ p.second ∷ [])))
       (place + 1 + records p.first + records p.second) top xs ys r)
@@ -91,7 +94,7 @@ module _ {s xs : List ℕ} {at levels last top : ℕ} (place : ℕ) (q : CheckRe
       two_kids e text k (Told ys r) n (λ b c t.
       counted (f b c) ys r (length (encode_all (b ∷ c ∷ []))) (place + 1 + records b + records c) (v (two_ready b c t)))
 
-  pub three_done : {f : Expr → Expr → Expr → Expr} (ys : List ℕ) (r : Walked) → node ≡ node3 f
+  pub three_done : {f : Expr → Expr → Expr → Expr} (ys : List ℕ) (r : Result Sorted Refused) → node ≡ node3 f
       → ((p : CheckThree s (at + h.size) (levels - 1) place last top xs)
       → CheckedAs (check_walk p.env (f p.first p.second p.third) place) (at + h.size + length (encode_all (p.first ∷ p.second ∷ p.third ∷ [])))
       (place + 1 + records p.first + records p.second + records p.third) top xs ys r)
@@ -102,16 +105,22 @@ module _ {s xs : List ℕ} {at levels last top : ℕ} (place : ℕ) (q : CheckRe
 
   -- a record without children
   pub leaf_ready : SortReady (part at s) h last xs
-  leaf_ready = record { inside = k.found; kind = kind_low e text k; env = q.env; bound = q.frames.bound }
+  leaf_ready = record { inside = k.found; env = q.env; bound = q.frames.bound }
 
-  pub leaf_done : (r : Walked) → 0 ≡ arity_of h.kind → (answer : Answer Bool)
-      → ((e : Expr) (env : Env Bool) → node ≡ node0 e → Bound xs last (flags env) → answer ≡ check_walk env e place)
-      → ((x : Answer Bool) (top : ℕ) (xs : List ℕ) → answer ≡ x → CheckedAs x (at + h.size) (place + 1) top xs xs r)
-      → Term xs r
-  leaf_done r none answer v told =
-      let f = alone e text k none in
-      subst (λ u. Told xs r e u (place + records e)) f.1
-      (subst (λ (n : ℕ). Told xs r e h.size n) (ap (λ (n : ℕ). place + n) f.2) (told (check_walk q.env e place) top xs (v e q.env f.0 q.frames.bound)))
+  module _ (none : 0 ≡ arity_of (kind_number h.kind)) {x : Answer Bool}
+      (v : (e : Expr) (env : Env Bool) → node ≡ node0 e → Bound xs last (flags env) → x ≡ check_walk env e place) where
+    pub leaf_is : check_walk q.env e place ≡ x
+    leaf_is = sym (v e q.env (alone e text k none).0 q.frames.bound)
+
+    pub leaf_done : (t : Bool) → x ≡ ok t → Term xs (Ok (record { used = at + h.size; next = place + 1; test = t }))
+    leaf_done t is =
+        let f = alone e text k none in
+        record {
+          is = leaf_is ∙ is;
+          used_is = omega (arith, f.1);
+          next_is = omega (arith, f.2);
+          kept = kept_all top xs;
+        }
 
 -- ## A whole term
 

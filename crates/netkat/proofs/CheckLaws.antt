@@ -5,6 +5,11 @@ use mathlib.Core.List.{List, ◌∷◌}
 use Prim.Native.Nat.{ℕ, ◌+◌, ◌*◌, ◌≤◌}
 use native.Mathlib.Omega.{arith}
 use lib.ListN.{length}
+use Rattle.std.specs.Prelude.{Result, Ok, Err}
+use Rattle.std.specs.Result.{IsErrAnd}
+use Rattle.refusals.specs.Refusals.{number_of}
+use Rattle.refusals.specs.declared.Refused.{Refused}
+use Rattle.refusals.proofs.Exits.{err_is}
 use Rattle.expr.specs.Answers.{Answer, and_then, ok, refuse}
 use Rattle.expr.specs.Form.{encode}
 use Rattle.expr.specs.Terms.{Expr, records}
@@ -16,8 +21,6 @@ use Rattle.desugar.proofs.Frames.{bound_kept}
 use Rattle.desugar.proofs.WalkLaws.{first_behind, then_ok}
 use Rattle.netkat.specs.CheckWords.{check_walk, flags, Frames, CheckReady, SortedAs, CheckedAs}
 use Rattle.netkat.specs.declared.check.Sorted.{Sorted}
-use Rattle.netkat.specs.declared.check.Walked.{Walked}
-use Rattle.netkat.specs.declared.check.Walked.TheVariants.{Done, Refused}
 
 -- ## Room for bindings
 
@@ -40,21 +43,23 @@ ready_first {env = env} place e es t k = record { term = e; env = env; start = t
 -- ## What a walk found
 
 -- the contract of a walk over one term
-abbrev pub Visited : List ℕ → (at levels place last top : ℕ) → (xs xs' : List ℕ) → Walked → Type 0
+abbrev pub Visited : List ℕ → (at levels place last top : ℕ) → (xs xs' : List ℕ) → Result Sorted Refused → Type 0
 Visited s at levels place last top xs xs' r =
     (q : CheckReady s at levels place last top xs)
     → CheckedAs (check_walk q.env q.term place) (at + length (encode q.term)) (place + records q.term) top xs xs' r
 
-module _ {s xs : List ℕ} {at levels place last top : ℕ} (xs' : List ℕ) (r : Walked) (q : CheckReady s at levels place last top xs)
-    (v : Visited s at levels place last top xs xs' r) where
-  abbrev Visit : Walked → Type 0
-  Visit = CheckedAs (check_walk q.env q.term place) (at + length (encode q.term)) (place + records q.term) top xs xs'
+module _ {s xs : List ℕ} {at levels place last top : ℕ} (xs' : List ℕ) (q : CheckReady s at levels place last top xs) where
+  pub found : {w : Sorted} → Visited s at levels place last top xs xs' (Ok w)
+      → SortedAs (check_walk q.env q.term place) (at + length (encode q.term)) (place + records q.term) top xs xs' w
+  found v = v q
 
-  pub found : {w : Sorted} → r ≡ Done w → SortedAs (check_walk q.env q.term place) (at + length (encode q.term)) (place + records q.term) top xs xs' w
-  found e = subst Visit e (v q)
+  pub stopped : (e : Refused) → Visited s at levels place last top xs xs' (Err e) → check_walk q.env q.term place ≡ refuse (number_of e.refusal) e.place
+  stopped e v = v q
 
-  pub stopped : {n p : ℕ} → r ≡ Refused n p → check_walk q.env q.term place ≡ refuse n p
-  stopped e = subst Visit e (v q)
+-- a refusal that is passed on
+pub passed_on : {x : Answer Bool} (used next top : ℕ) (xs xs' : List ℕ) (r : Result Sorted Refused) (e : Refused)
+    → IsErrAnd r (λ y. y ≡ e) → x ≡ refuse (number_of e.refusal) e.place → CheckedAs x used next top xs xs' r
+passed_on {x} used next top xs xs' r e is k = subst (CheckedAs x used next top xs xs') (sym (err_is r is)) k
 
 -- go on from a child's answer x, and the index behind the child, with the rest f of the walk
 pub go_on_fact : {x : Answer Bool} {used next top : ℕ} {xs ys : List ℕ} {w : Sorted} (f : Bool → ℕ → Answer Bool) → SortedAs x used next top xs ys w

@@ -1,27 +1,22 @@
 -- What src/check.rt answers on a record without children, in the words of the definition.
 use mathlib.Core.Path.{◌≡◌, refl, sym, ap, ◌∙◌}
-use mathlib.Core.Bool.{Bool, true, false, cond, ◌||◌}
+use mathlib.Core.Bool.{Bool, true, false, ◌||◌}
 use mathlib.Core.Option.{Option, none, some}
 use mathlib.Core.List.{List, [], ◌∷◌}
-use Prim.Native.Nat.{ℕ, ◌≤◌}
+use Prim.Native.Nat.{ℕ}
 use native.Mathlib.Omega.{arith}
-use borrow.Author.Tests.{ne_eqb}
 use lib.Dec.{eqb}
 use lib.ListN.{get_or}
-use Rattle.literals.specs.Bits.{Bits}
-use Rattle.literals.specs.Patterns.{Pattern}
 use Rattle.expr.specs.Answers.{Answer, and_then, map_answer, ok, refuse}
 use Rattle.expr.specs.Operations.{is_test_use}
-use Rattle.expr.specs.Records.{Record}
-use Rattle.expr.specs.Form.{pattern_of}
-use Rattle.expr.specs.Terms.{Core, Matches, Name, Ranged, Tests, Use, Var, Where, atom_kind}
+use Rattle.expr.specs.Terms.{Core, Name, Ranged, Use, Var, Where}
 use Rattle.desugar.specs.Bindings.{Env, find_range, lookup_alias, lookup_variable, range, variable}
 use Rattle.desugar.specs.Memory.{Lies}
-use Rattle.desugar.specs.Rules.{known_range, range_rule}
-use Rattle.desugar.specs.WalkWords.{use_of}
-use Rattle.desugar.specs.RangedWords.{atom_of, judged_range}
+use Rattle.desugar.specs.BindingWords.{unbound_number}
+use Rattle.desugar.specs.declared.bindings.Region.{Region}
+use Rattle.desugar.specs.Rules.{bound_variable, known_range, range_rule}
+use Rattle.desugar.specs.RangedWords.{judged_range}
 use Rattle.desugar.proofs.EnvLaws.{find_range_map, lookup_alias_map, lookup_variable_map, map_env, map_option}
-use Rattle.desugar.proofs.LeafKinds.{kinds_in, of}
 use Rattle.desugar.proofs.LeafSteps.{CoreFound}
 use Rattle.desugar.proofs.Regions.{head}
 use Rattle.netkat.specs.CheckWords.{check_walk, flags, sort_core}
@@ -63,35 +58,24 @@ sort_read true l = ap (λ k. eqb k 0) (head l.holds)
 sort_read false l = ap (λ k. eqb k 0) (head l.holds)
 
 module _ (env : Env Bool) (x : Name) (place : ℕ) where
-  pub unbound : lookup_variable (flags env) x ≡ none → lookup_alias (flags env) x ≡ none → refuse 12 place ≡ check_walk env (Var x) place
-  unbound v a =
-      let v' = none_mapped (lookup_variable env x) (sym (flag_variable env x) ∙ v) in
-      let a' = sym (flag_alias env x) ∙ a in
-      rw (v', a') refl
+  pub unbound : {n : ℕ} → lookup_variable (flags env) x ≡ none → n ≡ unbound_number (lookup_alias (flags env) x) → refuse n place ≡ check_walk env (Var x) place
+  unbound {n} v e =
+      ap (λ k. refuse k place) (e ∙ ap unbound_number (flag_alias env x)) ∙ which (lookup_alias env x)
+      ∙ sym (ap (λ o. bound_variable o (lookup_alias env x) place) (none_mapped (lookup_variable env x) (sym (flag_variable env x) ∙ v)))
+    where
+      which : (o : Option (ℕ × ℕ)) → ◌≡◌ {A = Answer Bool} (refuse (unbound_number o) place) (bound_variable none o place)
+      which (some r) = refl
+      which none = refl
 
-  pub only_alias : {r : ℕ × ℕ} → lookup_variable (flags env) x ≡ none → lookup_alias (flags env) x ≡ some r → refuse 13 place ≡ check_walk env (Var x) place
-  only_alias v a =
-      let v' = none_mapped (lookup_variable env x) (sym (flag_variable env x) ∙ v) in
-      let a' = sym (flag_alias env x) ∙ a in
-      rw (v', a') refl
-
-  pub sort_found : {xs : List ℕ} {last at n : ℕ} → CoreFound xs last (lookup_variable (flags env) x) at n
-      → ok (eqb (get_or xs at 0) 0) ≡ check_walk env (Var x) place
-  sort_found {xs} {last} {at} {n} f =
+  pub sort_found : {xs : List ℕ} {last : ℕ} {r : Region} → CoreFound xs last (lookup_variable (flags env) x) r
+      → ok (eqb (get_or xs r.at 0) 0) ≡ check_walk env (Var x) place
+  sort_found {xs} {last} {r} f =
       let m = some_mapped (lookup_variable env x) f.core (sym (flag_variable env x) ∙ f.is) in
-      let l : Lies xs at n (sort_core m.0) = rw (← m.2) f.lies in
+      let l : Lies xs r.at r.count (sort_core m.0) = rw (← m.2) f.at.lies in
       let v : lookup_variable env x ≡ some m.0 = m.1 in
       rw v (ap ok (sort_read m.0 l))
 
 -- ## Uses of ranges
-
--- all but assignments are tests
-pub test_use : (h : Record) → (h.kind ≡ 21 → ⊥) → (h.kind ≡ 23 → ⊥) → is_test_use (use_of h) ≡ true
-test_use h a b = rw (ne_eqb h.kind 21 a, ne_eqb h.kind 23 b) (either (eqb h.kind 22 || eqb h.kind 24) h.lit_a (pattern_of h))
-  where
-    either : (c : Bool) (l : Bits) (m : Pattern) → is_test_use (cond c (Tests l) (Matches m)) ≡ true
-    either true l m = refl
-    either false l m = refl
 
 module _ (w : Where) (u : Use) (at : ℕ) (sort : ℕ × ℕ → Bool) where
   rule_sort : (r : ℕ × ℕ) (x : Answer (Unit {0})) → map_answer sort (and_then x (λ _. ok r)) ≡ and_then x (λ _. ok (sort r))
@@ -108,9 +92,3 @@ use_sort u r = is_test_use u || eqb r.0 r.1
 
 pub ranged_sort : (env : Env Bool) (w : Where) (u : Use) (at : ℕ) → map_answer (use_sort u) (judged_range (flags env) w u at) ≡ check_walk env (Ranged w u) at
 ranged_sort env w u at = rw (flag_range env w) (known_sort w u at (use_sort u) (find_range env w))
-
--- ## Atoms
-
-pub atom_kind_fact : (h : Record) → h.kind ≤ 6 → atom_kind (atom_of h) ≡ h.kind
-atom_kind_fact h l =
-    kinds_in 0 7 (λ k. atom_kind (atom_of (of h k)) ≡ k) (refl, (refl, (refl, (refl, (refl, (refl, (refl, tt))))))) h.kind (omega arith) (omega arith)

@@ -1,16 +1,13 @@
 -- Check in code: the words of the contracts of src/check.rt.
 use mathlib.Core.{Path.◌≡◌, Bool.Bool, Bool.true, Bool.false, Bool.◌&&◌, Bool.◌||◌, List.List, List.[], List.◌∷◌}
-use Rattle.std.specs.Prelude.{ℕ, ◌+◌, ◌*◌, ◌^◌, ◌≤◌, ◌<◌}
+use Rattle.std.specs.Prelude.{ℕ, ◌+◌, ◌*◌, ◌^◌, ◌≤◌, ◌<◌, Result, Ok, Err}
 use lib.{Dec.eqb, ListN.length, ListN.drop}
 use Rattle.expr.specs.{Answers.Answer, Answers.ok, Answers.refuse, Answers.and_then, Answers.need, Terms.Zero, Terms.Top, Terms.Core, Terms.leaf, Terms.Expr, Terms.Plain, Terms.Unary, Terms.Binary, Terms.TestNegation, Terms.IfThenElse, Terms.Let, Terms.LetBitRange, Terms.Var, Terms.Ranged, Terms.atom_kind, Terms.op2_kind, Terms.test_kind, Terms.records, Terms.depth, Form.decode, Form.max_depth, Operations.is_test_use, Results.HeadInside}
 use Rattle.expr.specs.declared.records.Head.{Head}
-use Rattle.expr.specs.declared.records.HeadRead.TheVariants as head
+use Rattle.refusals.specs.Refusals.{number_of}
+use Rattle.refusals.specs.declared.Refused.{Refused}
 use Rattle.desugar.specs.{Bindings.Env, Bindings.variable, Bindings.range, Bindings.lookup_variable, Bindings.lookup_alias, Bindings.find_range, Rules.known_range, Rules.bound_variable, Rules.range_rule, Memory.Kept, BindingWords.Bound, WalkWords.TermAt, WalkWords.TermsAt}
-use Rattle.netkat.specs.declared.check.Checked.{Checked}
-use Rattle.netkat.specs.declared.check.Checked.TheVariants as checked
 use Rattle.netkat.specs.declared.check.Sorted.{Sorted}
-use Rattle.netkat.specs.declared.check.Walked.{Walked}
-use Rattle.netkat.specs.declared.check.Walked.TheVariants.{Done, Refused}
 
 -- ## Check as one walk
 
@@ -42,11 +39,6 @@ check_walk env (Ranged w u) at =
     and_then (known_range (find_range env w) at) λ r.
     and_then (range_rule w u r at) λ _.
     ok (is_test_use u || eqb r.0 r.1)
-
--- what `check` answers
-abbrev pub checked_answer : Checked → Answer Bool
-checked_answer (checked.Test b) = ok b
-checked_answer (checked.Refused r p) = refuse r p
 
 -- ## Bindings
 
@@ -114,8 +106,7 @@ pub record CheckThree (s : List ℕ) (from levels place last top : ℕ) (xs : Li
 
 -- of a record without children, which was read from the bytes s
 pub record SortReady (s : List ℕ) (h : Head) (last : ℕ) (xs : List ℕ) : Type 0 where
-  pub inside : HeadInside s (head.Found h)
-  pub kind : h.kind ≤ 26
+  pub inside : HeadInside s (Ok h)
   pub env : Env Bool
   pub bound : Bound xs last (flags env)
 
@@ -129,6 +120,6 @@ pub record SortedAs (x : Answer Bool) (used next top : ℕ) (xs xs' : List ℕ) 
   pub kept : Kept top xs xs'
 
 -- r is the definition's answer x: the index of the byte behind the term, the index of the record behind it, and the sort; or the refusal
-abbrev pub CheckedAs : Answer Bool → (used next top : ℕ) → (xs xs' : List ℕ) → Walked → Type 0
-CheckedAs x used next top xs xs' (Done w) = SortedAs x used next top xs xs' w
-CheckedAs x used next top xs xs' (Refused n p) = x ≡ refuse n p
+abbrev pub CheckedAs : Answer Bool → (used next top : ℕ) → (xs xs' : List ℕ) → Result Sorted Refused → Type 0
+CheckedAs x used next top xs xs' (Ok w) = SortedAs x used next top xs xs' w
+CheckedAs x used next top xs xs' (Err e) = x ≡ refuse (number_of e.refusal) e.place

@@ -3,7 +3,6 @@ ghost use Rattle.std.specs.Prelude.{[]};
 ghost use Rattle.netkat.specs.Entry.{Answers, Call};
 
 use crate::Answer;
-use costs::Costed;
 
 // The cost of a pattern on the fields from `start` up to `end`, in 64 bits, the lower half first. The pattern is given by its number,
 // its prefix, and its literals, each as bytes and a length in bits.
@@ -20,10 +19,7 @@ pub fn netkat_cost(
     ensures { Answers (Call.Cost «start» «end» pattern number (a.now, a_bits) (b.now, b_bits)) [] [] result }
 {
     match costs::pattern_cost(start, end, pattern, number, a, a_bits, b, b_bits) {
-        Costed::Refused(refusal) => crate::answers::refused(refusal, 0),
-        Costed::Nodes(nodes) => crate::answers::success(
-            (nodes % 0x1_0000_0000) as u32,
-            (nodes / 0x1_0000_0000) as u32,
-        ),
+        Ok(nodes) => Answer::halved(nodes),
+        Err(refusal) => Answer::refused(refusal.at(0)),
     }
 }

@@ -11,12 +11,12 @@ pub mod run;
 ghost use Rattle.std.specs.Prelude.{◌≡◌, []};
 ghost use Rattle.netkat.specs.Entry.{Answers, Call, version};
 
-use desugar::Subrange;
+use refusals::Refusal;
 
 // What a call answers. Success has number 0, place 0 and the operation's values, 0 where it has none; a refusal has its number and
 // place, and no values.
 #[repr(C)]
-#[derive(Clone, Copy)]
+#[derive(Clone, Copy, Debug, PartialEq, Eq)]
 pub struct Answer {
     pub number: u32,
     pub place: u32,
@@ -34,18 +34,8 @@ pub fn netkat_compute_subrange(
     ensures { Answers (Call.Subrange alias_start alias_end sub_start sub_end) [] [] result }
 {
     match desugar::compute_subrange(alias_start, alias_end, sub_start, sub_end) {
-        Subrange::Fields(start, end) => Answer {
-            number: 0,
-            place: 0,
-            first: start,
-            second: end,
-        },
-        Subrange::Outside => Answer {
-            number: 28,
-            place: 0,
-            first: 0,
-            second: 0,
-        },
+        Some(fields) => Answer::success(fields.start, fields.end),
+        None => Answer::refused(Refusal::SubrangeOutside.at(0)),
     }
 }
 

@@ -3,18 +3,14 @@ ghost use Rattle.std.specs.Prelude.{◌≡◌, [], length};
 ghost use Rattle.netkat.specs.Entry.{Answers, Call};
 
 use crate::Answer;
-use crate::check::Checked;
-use desugar::bytes::Desugared;
-use expr::operations::{FieldCount, Fragment};
-use expr::replace::Substituted;
 
 // Form and the rules 11 to 23: the first value is 1 if the term is a test, and else 0.
 pub fn netkat_check(term: &[u8]) -> Answer
     ensures { Answers (Call.Check term.now) [] [] result }
 {
     match crate::check::check(term) {
-        Checked::Refused(number, at) => crate::answers::refused(number, at),
-        Checked::Test(yes) => crate::answers::judged(yes),
+        Ok(test) => Answer::judged(test),
+        Err(e) => Answer::refused(e),
     }
 }
 
@@ -23,8 +19,8 @@ pub fn netkat_is_test_fragment(term: &[u8]) -> Answer
     ensures { Answers (Call.TestFragment term.now) [] [] result }
 {
     match expr::operations::is_test_fragment(term) {
-        Fragment::Refused(number, at) => crate::answers::refused(number, at),
-        Fragment::Is(yes) => crate::answers::judged(yes),
+        Ok(yes) => Answer::judged(yes),
+        Err(e) => Answer::refused(e),
     }
 }
 
@@ -34,8 +30,8 @@ pub fn netkat_num_fields(term: &[u8]) -> Answer
     ensures { Answers (Call.FieldCount term.now) [] [] result }
 {
     match expr::operations::num_fields(term) {
-        FieldCount::Refused(number, at) => crate::answers::refused(number, at),
-        FieldCount::Count(count) => crate::answers::success(count, 0),
+        Ok(count) => Answer::success(count, 0),
+        Err(e) => Answer::refused(e),
     }
 }
 
@@ -45,8 +41,8 @@ pub fn netkat_substitute(term: &[u8], name: u16, replacement: &[u8], out: &mut [
     ensures { Answers (Call.Substitute term.now name replacement.now) out.old out.new result }
 {
     match expr::replace::substitute(term, name, replacement, out) {
-        Substituted::Refused(number, at) => crate::answers::refused(number, at),
-        Substituted::Length(length) => crate::answers::success(length as u32, 0),
+        Ok(length) => Answer::success(length as u32, 0),
+        Err(e) => Answer::refused(e),
     }
 }
 
@@ -57,7 +53,7 @@ pub fn netkat_desugar(term: &[u8], allowance: u32, work: &mut [u32], out: &mut [
     ensures work_len_unchanged { length work.new ≡ length work.old }
 {
     match desugar::bytes::desugar(term, allowance, work, out) {
-        Desugared::Refused(number, at) => crate::answers::refused(number, at),
-        Desugared::Done(length, drawn) => crate::answers::success(length as u32, drawn as u32),
+        Ok(core) => Answer::success(core.length as u32, core.drawn as u32),
+        Err(e) => Answer::refused(e),
     }
 }

@@ -3,7 +3,6 @@ ghost use Rattle.std.specs.Prelude.{◌≡◌, [], length};
 ghost use Rattle.netkat.specs.Entry.{Answers, Call};
 
 use crate::Answer;
-use packets::Ran;
 
 // Which packets pass a core that is a test: bit i of the 64-bit answer, its lower half first, says so of packet i. The record list is scratch.
 pub fn netkat_run_packets(
@@ -16,10 +15,7 @@ pub fn netkat_run_packets(
     ensures records_len_unchanged { length records.new ≡ length records.old }
 {
     match packets::run_packets(core, records, packets, lengths) {
-        Ran::Refused(number, at) => crate::answers::refused(number, at),
-        Ran::Passing(mask) => crate::answers::success(
-            (mask % 0x1_0000_0000) as u32,
-            (mask / 0x1_0000_0000) as u32,
-        ),
+        Ok(passing) => Answer::halved(passing),
+        Err(e) => Answer::refused(e),
     }
 }

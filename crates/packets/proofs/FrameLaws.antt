@@ -2,42 +2,40 @@
 use mathlib.Core.Path.{◌≡◌, refl, sym, ap, ◌∙◌}
 use mathlib.Core.Bool.{Bool, true, false, not, cond, ◌&&◌, ◌||◌, false≢true}
 use mathlib.Core.List.{List, [], ◌∷◌}
-use Prim.Native.Nat.{ℕ, zero, suc, ◌+◌, ◌-◌, ◌*◌, ◌/◌, ◌%◌, ◌^◌, ◌≤◌, ◌<◌}
+use Prim.Native.Nat.{ℕ, zero, suc, ◌+◌, ◌-◌, ◌≤◌, ◌<◌}
 use native.Mathlib.Nat.{zero-add}
 use native.Mathlib.Numerals.{add-one}
 use native.Mathlib.Omega.{arith}
 use borrow.Author.Tests.{lt-ltb, le-ltb, ltb-true, ltb-false, ne_eqb}
 use lib.Dec.{ltb, eqb}
-use lib.ListN.{length, get_or}
-use lib.Seq.{sets}
+use lib.ListN.{length, get_or, set}
+use lib.Seq.{get_or-set_same, get_or-set_other}
+use Rattle.expr.specs.Kinds.{kind_number}
 use Rattle.literals.specs.Bits.{bit}
 use Rattle.expr.specs.Results.{arity_of}
 use Rattle.expr.proofs.Arities.{arity_small}
-use Rattle.desugar.proofs.Regions.{head, tail, sets_below, stored}
-use Rattle.packets.specs.Results.{leaf_mask, combined, settles, first, second, mask_at, frame_at, frames_in, State, state_of, skipping, fed, closed_mask, opened, opened_kind, looked, stepped, Stepped}
+use Rattle.packets.specs.Results.{leaf_mask, combined, settles, first, second, framed, mask_in, frame_in, frames_in, State, state_of, skipping, fed, closed_mask, opened, opened_kind, looked, stepped, Stepped}
 use Rattle.cores.specs.declared.records.CoreRecord.{CoreRecord}
 use Rattle.packets.specs.declared.frames.Progress.{Progress}
 
 -- ## Frames in memory
 
 -- what lies behind the frames does not count
-pub frames_below : (xs : List ℕ) (i : ℕ) (vs : List ℕ) (n : ℕ) → 3 * n ≤ i → frames_in (sets xs i vs) n ≡ frames_in xs n
-frames_below xs i vs zero h = refl
-frames_below xs i vs (suc n) h =
-    let rest = frames_below xs i vs n (omega arith) in
-    let same : (k : ℕ) → k < 3 * suc n → get_or (sets xs i vs) k 0 ≡ get_or xs k 0 = λ k l. sets_below xs i vs k (omega arith) in
-    let kind = same (3 * n) (omega arith) in
-    let low = same (3 * n + 1) (omega arith) in
-    let high = same (3 * n + 1 + 1) (omega arith) in
-    λ j. cond (ltb (kind j) 16) (first (kind j)) (second (kind j - 16) (low j + 2 ^ 32 * high j)) ∷ rest j
+pub frames_below : (xs : List (List ℕ)) (i : ℕ) (v : List ℕ) (n : ℕ) → n ≤ i → frames_in (set xs i v) n ≡ frames_in xs n
+frames_below xs i v zero h = refl
+frames_below xs i v (suc n) h =
+    let same : get_or (set xs i v) n [] ≡ get_or xs n [] = get_or-set_other xs i n v [] (λ e. omega (arith, e)) in
+    λ j. frame_in (same j) ∷ frames_below xs i v n (omega arith) j
 
 -- a frame that was written
-pub frame_put : (xs : List ℕ) (i k m : ℕ) → i + 3 ≤ length xs
-    → frame_at (sets xs i (k ∷ (m % 2 ^ 32) ∷ (m / 2 ^ 32) ∷ [])) i ≡ cond (ltb k 16) (first k) (second (k - 16) m)
-frame_put xs i k m h =
-    let h = stored xs i (k ∷ (m % 2 ^ 32) ∷ (m / 2 ^ 32) ∷ []) h in
-    let mask : mask_at (sets xs i (k ∷ (m % 2 ^ 32) ∷ (m / 2 ^ 32) ∷ [])) (i + 1) ≡ m = omega (arith, head (tail h), head (tail (tail h))) in
-    λ j. cond (ltb (head h j) 16) (first (head h j)) (second (head h j - 16) (mask j))
+pub frame_put : (k m : ℕ) → frame_in (framed k m) ≡ cond (ltb k 16) (first k) (second (k - 16) m)
+frame_put k m = let mask : mask_in (framed k m) ≡ m = omega arith in λ j. cond (ltb k 16) (first k) (second (k - 16) (mask j))
+
+frames_put : (xs : List (List ℕ)) (n : ℕ) → n < length xs → (k m : ℕ) → frames_in (set xs n (framed k m)) (n + 1) ≡ cond (ltb k 16) (first k) (second (k - 16) m) ∷ frames_in xs n
+frames_put xs n h k m =
+    (λ i. frames_in (set xs n (framed k m)) (add-one n i))
+    ∙ (λ i. frame_in (get_or-set_same xs n (framed k m) [] h i) ∷ frames_below xs n (framed k m) n (omega arith) i)
+    ∙ λ i. frame_put k m i ∷ frames_in xs n
 
 -- ## The loop of feed
 
@@ -59,45 +57,45 @@ high_settled k m h = go (eqb m 0) (λ i. other 8 (omega arith) i || (other 10 (o
     go false e = refl
 
 -- the frames from the first up to depth are left, and the last mask is m
-pub record Feeding (list₀ : List ℕ) (from value : ℕ) (list : List ℕ) (depth m skip : ℕ) : Type 0 where
+pub record Feeding (list₀ : List (List ℕ)) (from value : ℕ) (list : List (List ℕ)) (depth m skip : ℕ) : Type 0 where
   pub long : length list ≡ length list₀
   pub low : depth + skip ≤ from
   pub is : fed (frames_in list₀ from) value ≡ skipping skip (fed (frames_in list depth) m)
 
-pub feed_start : (list : List ℕ) (from value : ℕ) → Feeding list from value list from value 0
-feed_start list from value = record { long = refl; low = omega arith; is = sym (skipping_none (fed (frames_in list from) value)) }
-
-module _ {list₀ : List ℕ} {from value : ℕ} {list : List ℕ} {depth m skip : ℕ} (f : Feeding list₀ from value list depth m skip) where
-  module _ (some : 0 < depth) (room : 3 * from ≤ length list₀) where
+module _ {list₀ : List (List ℕ)} {from value : ℕ} {list : List (List ℕ)} {depth m skip : ℕ} (f : Feeding list₀ from value list depth m skip) where
+  module _ (some : 0 < depth) (room : from ≤ length list₀) where
     abbrev n : ℕ
     n = depth - 1
 
     same_depth : depth ≡ suc n
     same_depth = omega arith
 
-    pub feed_inside : 3 * n + 3 ≤ length list
+    pub feed_inside : n < length list
     feed_inside = omega (arith, f.low, f.long, room)
 
-    abbrev kind : ℕ
-    kind = get_or list (3 * n) 0
+    abbrev frame : List ℕ
+    frame = get_or list n []
 
-    opened_is : fed (frames_in list₀ from) value ≡ skipping skip (fed (frame_at list (3 * n) ∷ frames_in list n) m)
+    abbrev kind : ℕ
+    kind = get_or frame 0 0
+
+    opened_is : fed (frames_in list₀ from) value ≡ skipping skip (fed (frame_in frame ∷ frames_in list n) m)
     opened_is = f.is ∙ ap (λ d. skipping skip (fed (frames_in list d) m)) same_depth
 
     -- an operator that is closed
-    pub feed_closed : {s : Bool} {m' skip' : ℕ} → s ≡ settles kind m → (ltb kind 16 && not s) ≡ false → m' ≡ closed_mask list (3 * n) kind m → skip' ≡ skip + bit s
+    pub feed_closed : {s : Bool} {m' skip' : ℕ} → s ≡ settles kind m → (ltb kind 16 && not s) ≡ false → m' ≡ closed_mask frame m → skip' ≡ skip + bit s
         → Feeding list₀ from value list n m' skip'
     feed_closed {s} {m'} {skip'} e t c k = go (ltb kind 16) refl s e t k c
       where
         go : (b : Bool) → ltb kind 16 ≡ b → (x : Bool) → x ≡ settles kind m → (b && not x) ≡ false → skip' ≡ skip + bit x
-            → m' ≡ cond b m (combined (kind - 16) (mask_at list (3 * n + 1)) m) → Feeding list₀ from value list n m' skip'
+            → m' ≡ cond b m (combined (kind - 16) (mask_in frame) m) → Feeding list₀ from value list n m' skip'
         go true p false q r u v = absurd (false≢true (sym r))
         go true p true q r u v = record {
           long = f.long;
           low = omega (arith, f.low, u);
           is =
               opened_is
-              ∙ (λ i. skipping skip (fed (cond (p i) (first kind) (second (kind - 16) (mask_at list (3 * n + 1))) ∷ frames_in list n) m))
+              ∙ (λ i. skipping skip (fed (cond (p i) (first kind) (second (kind - 16) (mask_in frame)) ∷ frames_in list n) m))
               ∙ (λ i. skipping skip (cond (sym q i) (skipping 1 (fed (frames_in list n) m)) (record { skip = 0; frames = second kind m ∷ frames_in list n; mask = m })))
               ∙ skipping_more skip (fed (frames_in list n) m)
               ∙ λ i. skipping (sym u i) (fed (frames_in list n) (sym v i));
@@ -110,83 +108,57 @@ module _ {list₀ : List ℕ} {from value : ℕ} {list : List ℕ} {depth m skip
               low = omega (arith, f.low, none);
               is =
                   opened_is
-                  ∙ (λ i. skipping skip (fed (cond (p i) (first kind) (second (kind - 16) (mask_at list (3 * n + 1))) ∷ frames_in list n) m))
+                  ∙ (λ i. skipping skip (fed (cond (p i) (first kind) (second (kind - 16) (mask_in frame)) ∷ frames_in list n) m))
                   ∙ λ i. skipping (none i) (fed (frames_in list n) (sym v i));
             }
 
     -- an operator whose second operand is needed
-    pub feed_second : {list' : List ℕ} → ltb kind 16 ≡ true → settles kind m ≡ false → list' ≡ sets list (3 * n) ((kind + 16) ∷ (m % 2 ^ 32) ∷ (m / 2 ^ 32) ∷ [])
-        → record { skip = skip; frames = frames_in list' depth; mask = m } ≡ fed (frames_in list₀ from) value
+    pub feed_second : {list' : List (List ℕ)} → ltb kind 16 ≡ true → settles kind m ≡ false → list' ≡ set list n (framed (kind + 16) m)
+        → record { skip = skip; frames = frames_in list' (n + 1); mask = m } ≡ fed (frames_in list₀ from) value
     feed_second {list'} p q w =
         let low : ltb (kind + 16) 16 ≡ false = le-ltb (kind + 16) 16 (omega arith) in
         let back : kind + 16 - 16 ≡ kind = omega arith in
         let none : skip ≡ skip + 0 = omega arith in
-        let frames : frames_in list' depth ≡ second kind m ∷ frames_in list n =
-        (λ i. frames_in (w i) (same_depth i))
-        ∙ (λ i. frame_put list (3 * n) (kind + 16) m (omega (arith, feed_inside, f.long)) i ∷ frames_below list (3 * n) ((kind + 16) ∷ (m % 2 ^ 32) ∷ (m / 2 ^ 32) ∷ []) n (omega arith) i)
-        ∙ λ i. cond (low i) (first (kind + 16)) (second (back i) m) ∷ frames_in list n in
+        let frames : frames_in list' (n + 1) ≡ second kind m ∷ frames_in list n =
+        (λ i. frames_in (w i) (n + 1)) ∙ frames_put list n feed_inside (kind + 16) m ∙ λ i. cond (low i) (first (kind + 16)) (second (back i) m) ∷ frames_in list n in
         (λ i. record { skip = none i; frames = frames i; mask = m })
         ∙ sym (
         opened_is
-        ∙ (λ i. skipping skip (fed (cond (p i) (first kind) (second (kind - 16) (mask_at list (3 * n + 1))) ∷ frames_in list n) m))
+        ∙ (λ i. skipping skip (fed (cond (p i) (first kind) (second (kind - 16) (mask_in frame)) ∷ frames_in list n) m))
         ∙ λ i. skipping skip (cond (q i) (skipping 1 (fed (frames_in list n) m)) (record { skip = 0; frames = second kind m ∷ frames_in list n; mask = m }))
         )
 
-  pub feed_end : depth ≤ 0 → record { skip = skip; frames = frames_in list depth; mask = m } ≡ fed (frames_in list₀ from) value
-  feed_end h =
-      let z : depth ≡ 0 = omega arith in
-      let none : skip ≡ skip + 0 = omega arith in
-      (λ i. record { skip = none i; frames = frames_in list (z i); mask = m }) ∙ sym (f.is ∙ λ i. skipping skip (fed (frames_in list (z i)) m))
-
 -- ## One record
 
-module _ (ps : List (List ℕ)) (list : List ℕ) (sofar : Progress) (d : CoreRecord) (fits : 3 * sofar.depth ≤ length list) where
-  -- the list is full
-  pub step_full : length list / 3 ≤ sofar.depth → Stepped ps list sofar d list sofar
-  step_full h = record { is = λ room. absurd (omega (arith, h, room)); fits = fits; deep = omega arith; few = omega arith }
-
+module _ (ps : List (List ℕ)) (list : List (List ℕ)) (sofar : Progress) (d : CoreRecord) (fits : sofar.depth ≤ length list) where
   -- read, by whether cores are skipped
   abbrev chosen : Bool → State
   chosen b =
-      cond b (record { skip = sofar.skip - 1 + arity_of d.kind; frames = frames_in list sofar.depth; mask = sofar.mask })
-      (looked ps (frames_in list sofar.depth) d.kind d.field d.value)
+      cond b (record { skip = sofar.skip - 1 + arity_of (kind_number d.kind); frames = frames_in list sofar.depth; mask = sofar.mask })
+      (looked ps (frames_in list sofar.depth) (kind_number d.kind) d.field d.value)
 
   -- the record is not looked at
-  pub step_skip : 0 < sofar.skip → {a : ℕ} → a ≡ arity_of d.kind
+  pub step_skip : 0 < sofar.skip → {a : ℕ} → a ≡ arity_of (kind_number d.kind)
       → Stepped ps list sofar d list (record { depth = sofar.depth; mask = sofar.mask; skip = sofar.skip - 1 + a })
   step_skip some {a} e = record {
     is = λ _. (λ i. record { skip = sofar.skip - 1 + e i; frames = frames_in list sofar.depth; mask = sofar.mask }) ∙ ap chosen (sym (lt-ltb 0 sofar.skip some));
     fits = fits;
     deep = omega arith;
-    few = omega (arith, arity_small d.kind a e);
+    few = omega (arith, arity_small (kind_number d.kind) a e);
   }
 
   module _ (none : sofar.skip ≤ 0) where
-    looked_at_fact : looked ps (frames_in list sofar.depth) d.kind d.field d.value ≡ stepped ps (state_of list sofar) d.kind d.field d.value
+    looked_at_fact : looked ps (frames_in list sofar.depth) (kind_number d.kind) d.field d.value ≡ stepped ps (state_of list sofar) (kind_number d.kind) d.field d.value
     looked_at_fact = ap chosen (sym (le-ltb 0 sofar.skip none))
 
-    -- its mask is an operand's
-    pub step_leaf : d.kind < 7 → {m : ℕ} {list' : List ℕ} {r : Progress} → m ≡ leaf_mask d.kind d.field d.value ps → state_of list' r ≡ fed (frames_in list sofar.depth) m
-        → (r.depth ≤ sofar.depth) × (r.skip ≤ sofar.depth) → Stepped ps list sofar d list' r
-    step_leaf low {m} {list'} {r} e w b = record {
-      is = λ _.
-          w ∙ (λ i. cond (sym (lt-ltb d.kind 7 low) i) (fed (frames_in list sofar.depth) (e i)) (record { skip = 0; frames = opened d.kind ∷ frames_in list sofar.depth; mask = 0 }))
-          ∙ looked_at_fact;
-      fits = omega (arith, b.0, fits);
-      deep = omega (arith, b.0);
-      few = omega (arith, b.1);
-    }
-
     -- it opens an operator
-    pub step_open : 7 ≤ d.kind → sofar.depth < length list / 3 → {j : ℕ} → j ≡ opened_kind d.kind
-        → {list' : List ℕ} → list' ≡ sets list (3 * sofar.depth) (j ∷ (0 % 2 ^ 32) ∷ (0 / 2 ^ 32) ∷ [])
+    pub step_open : 7 ≤ (kind_number d.kind) → sofar.depth < length list → {j : ℕ} → j ≡ opened_kind (kind_number d.kind) → {list' : List (List ℕ)} → list' ≡ set list sofar.depth (framed j 0)
         → Stepped ps list sofar d list' (record { depth = sofar.depth + 1; mask = 0; skip = 0 })
     step_open high room e {list'} w =
-        let k : ℕ = d.kind in
+        let k : ℕ = (kind_number d.kind) in
         let n : ℕ = sofar.depth in
-        let frame : frame_at (sets list (3 * n) (opened_kind k ∷ (0 % 2 ^ 32) ∷ (0 / 2 ^ 32) ∷ [])) (3 * n) ≡ opened k = frame_put list (3 * n) (opened_kind k) 0 (omega arith) ∙ is_opened k in
         let frames : frames_in list' (n + 1) ≡ opened k ∷ frames_in list n =
-        (λ i. frames_in (w i) (add-one n i)) ∙ (λ i. frames_in (sets list (3 * n) (e i ∷ (0 % 2 ^ 32) ∷ (0 / 2 ^ 32) ∷ [])) (suc n)) ∙ λ i. frame i ∷ frames_below list (3 * n) (opened_kind k ∷ (0 % 2 ^ 32) ∷ (0 / 2 ^ 32) ∷ []) n (omega arith) i in
+        (λ i. frames_in (w i) (n + 1)) ∙ (λ i. frames_in (set list n (framed (e i) 0)) (n + 1)) ∙ frames_put list n room (opened_kind k) 0 ∙ λ i. is_opened k i ∷ frames_in list n in
         record {
           is = λ _.
               (λ i. record { skip = 0; frames = frames i; mask = 0 })

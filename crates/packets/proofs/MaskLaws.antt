@@ -2,13 +2,12 @@
 use mathlib.Core.Path.{◌≡◌, refl, sym, ap, ◌∙◌}
 use mathlib.Core.Bool.{Bool, true, false, not, ◌&&◌, ◌||◌, beq, false≢true}
 use mathlib.Core.List.{List, [], ◌∷◌, map}
-use Prim.Native.Nat.{ℕ, zero, suc, ◌+◌, ◌*◌, ◌/◌, ◌%◌, ◌^◌, ◌≤◌, ◌<◌, min, max}
+use Prim.Native.Nat.{ℕ, ◌+◌, ◌*◌, ◌/◌, ◌%◌, ◌^◌, ◌≤◌, ◌<◌, min, max}
 use native.Mathlib.Nat.{pow-succ'}
 use native.Mathlib.Omega.{arith}
 use lib.Bits.{bit_and, bit_or, bit_xor, differ, and_step, or_step, xor_step, and_zero_l}
 use lib.Dec.{eqb}
-use lib.ListN.{length, get_or, set, replicate, length-map, length-set}
-use lib.Seq.{get_or-set_same, get_or-set_other}
+use lib.ListN.{length, length-map}
 use lib.Pow.{pow_mono}
 use Rattle.literals.specs.Bits.{bit, value_of}
 use Rattle.literals.proofs.Bits.{value_below}
@@ -17,7 +16,7 @@ use Rattle.expr.specs.Terms.{Atom, Zero, One, Top, Dup, End, Assign, Test, Op1, 
 use Rattle.desugar.specs.CoreRecords.{atom_field, atom_value}
 use Rattle.desugar.specs.Packets.{passes}
 use Rattle.packets.specs.Running.{packet_of, passing}
-use Rattle.packets.specs.Results.{field_mask, MasksOf, leaf_mask, combined, settles}
+use Rattle.packets.specs.Results.{field_mask, leaf_mask, combined, settles}
 
 -- ## Bitwise, digit by digit
 
@@ -157,39 +156,3 @@ mask_below u ps n h = omega (arith, value_below (map u ps), ap (λ k. 2 ^ k) (le
 pub all_ones : {A : Type 0} (ps : List A) → value_of (map (λ p. true) ps) + 1 ≡ 2 ^ length ps
 all_ones [] = refl
 all_ones (p ∷ ps) = rw (pow-succ' 2 (length ps)) (omega (arith, all_ones ps))
-
--- ## Masks of fields that are kept
-
--- a field's mask in the place of another
-pub masks_put : {ps : List (List ℕ)} {table : List ℕ} → MasksOf ps table → (j f m : ℕ) → j < 256 → m ≡ field_mask f ps
-    → MasksOf ps (set (set table (2 * j) (f + 1)) (2 * j + 1) m)
-masks_put {ps} {table} k j f m l e = record {
-  long = length-set (set table (2 * j) (f + 1)) (2 * j + 1) m ∙ length-set table (2 * j) (f + 1) ∙ k.long;
-  each = λ i g h. go i g h (eqb i j) refl;
-}
-  where
-    put : List ℕ
-    put = set table (2 * j) (f + 1)
-
-    go : (i g : ℕ) → get_or (set put (2 * j + 1) m) (2 * i) 0 ≡ g + 1 → (b : Bool) → eqb i j ≡ b → get_or (set put (2 * j + 1) m) (2 * i + 1) 0 ≡ field_mask g ps
-    go i g h true b =
-        let same : i ≡ j = (eqb_is i j).0 b in
-        let name : f + 1 ≡ g + 1 =
-        sym (get_or-set_same table (2 * j) (f + 1) 0 (omega (arith, l, k.long))) ∙ sym (get_or-set_other put (2 * j + 1) (2 * j) m 0 (λ d. omega (arith, d)))
-        ∙ ap (λ n. get_or (set put (2 * j + 1) m) (2 * n) 0) (sym same) ∙ h in
-        let field : f ≡ g = omega (arith, name) in
-        ap (λ n. get_or (set put (2 * j + 1) m) (2 * n + 1) 0) same
-        ∙ get_or-set_same put (2 * j + 1) m 0 (omega (arith, l, k.long, length-set table (2 * j) (f + 1))) ∙ e ∙ ap (λ n. field_mask n ps) field
-    go i g h false b =
-        let other : i ≡ j → ⊥ = λ d. false≢true (sym b ∙ (eqb_is i j).1 d) in
-        get_or-set_other put (2 * j + 1) (2 * i + 1) m 0 (λ d. other (omega (arith, d))) ∙ get_or-set_other table (2 * j) (2 * i + 1) (f + 1) 0 (λ d. omega (arith, d))
-        ∙ k.each i g (sym (get_or-set_other put (2 * j + 1) (2 * i) m 0 (λ d. omega (arith, d)) ∙ get_or-set_other table (2 * j) (2 * i) (f + 1) 0 (λ d. other (omega (arith, d)))) ∙ h)
-
--- none yet
-pub masks_none : (ps : List (List ℕ)) → MasksOf ps (replicate 512 0)
-masks_none ps = record { long = refl; each = λ j f e. absurd (omega (arith, e, zeros 512 (2 * j))) }
-  where
-    zeros : (n i : ℕ) → ◌≡◌ {A = ℕ} (get_or (replicate n 0) i 0) 0
-    zeros zero i = refl
-    zeros (suc n) zero = refl
-    zeros (suc n) (suc i) = zeros n i

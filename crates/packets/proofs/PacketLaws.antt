@@ -1,19 +1,21 @@
 -- Packets that lie end to end.
 use mathlib.Core.Path.{◌≡◌, refl, sym, ap, ◌∙◌}
-use mathlib.Core.Bool.{Bool, true, false, cond}
-use mathlib.Core.List.{List, [], ◌∷◌}
+use mathlib.Core.Bool.{Bool, true, false}
+use mathlib.Core.List.{List, [], ◌∷◌, ◌++◌}
 use Prim.Native.Nat.{ℕ, zero, suc, ◌+◌, ◌-◌, ◌*◌, ◌/◌, ◌^◌, ◌≤◌, ◌<◌, min}
 use native.Mathlib.Omega.{arith}
-use borrow.Author.Tests.{le-leb, lt-leb, leb-true, leb-false, lt-ltb, le-ltb}
+use borrow.Author.Tests.{le-leb, lt-leb, leb-true, leb-false}
 use lib.Dec.{leb}
-use lib.ListN.{length, take, drop, get_or, length-take, length-drop, drop_of_length-le}
+use lib.ListN.{length, take, drop, get_or, length-append, length-take, length-drop, drop_of_length-le}
+use Rattle.std.proofs.Common.{append-nil, append_assoc}
+use Rattle.std.proofs.lemmas.List.Sums.{sum_by-cons}
 use lib.Seq.{drop-drop, take_all, take-nil}
+use Rattle.std.specs.Prelude.{Some, None, sum}
 use Rattle.literals.specs.Bits.{bit, unpack}
-use Rattle.expr.specs.Answers.{ok, refuse, and_then, need}
+use Rattle.expr.specs.Answers.{and_then, need}
 use Rattle.packets.specs.Running.{max_packets, packet_bytes, packet_of, wide_enough}
 use Rattle.packets.specs.Claims.{total}
-use Rattle.packets.specs.Results.{field_mask, Captured, ShortFound}
-use Rattle.packets.specs.declared.masks.Capture.{Capture}
+use Rattle.packets.specs.Results.{field_mask, all_mask, ShortFound}
 use Rattle.packets.proofs.MaskLaws.{mask_below, all_ones}
 
 pub packets_long : (ns s : List ℕ) → length (packet_bytes ns s) ≡ length ns
@@ -35,14 +37,10 @@ start_next i [] h = absurd (omega arith)
 start_next zero (n ∷ ns) h = omega arith
 start_next (suc i) (n ∷ ns) h = omega (arith, start_next i ns (omega arith))
 
-start_end : (ns : List ℕ) → start_of (length ns) ns ≡ total ns
-start_end [] = refl
-start_end (n ∷ ns) = ap (λ k. n + k) (start_end ns)
-
-start_small : (i : ℕ) (ns : List ℕ) → ((k : ℕ) → get_or ns k 0 < 2 ^ 32) → start_of i ns ≤ 2 ^ 32 * i
-start_small zero ns h = omega arith
-start_small (suc i) [] h = omega arith
-start_small (suc i) (n ∷ ns) h = omega (arith, h 0, start_small i ns (λ k. h (suc k)))
+start_within : (i : ℕ) (ns : List ℕ) → i < length ns → start_of i ns + get_or ns i 0 ≤ total ns
+start_within i [] h = absurd (omega (arith, h))
+start_within zero (n ∷ ns) h = omega arith
+start_within (suc i) (n ∷ ns) h = omega (arith, start_within i ns (omega arith))
 
 -- packet i, and those behind it
 packet_at : (i : ℕ) (ns s : List ℕ) → i < length ns → drop i (packet_bytes ns s) ≡ take (get_or ns i 0) (drop (start_of i ns) s) ∷ drop (suc i) (packet_bytes ns s)
@@ -53,6 +51,10 @@ packet_at (suc i) (n ∷ ns) s h =
 
 -- ## Where they end
 
+pub sum_total : (ns : List ℕ) → sum ns ≡ total ns
+sum_total [] = refl
+sum_total (n ∷ ns) = sum_by-cons (λ k. k) n ns ∙ ap (λ k. n + k) (sum_total ns)
+
 -- packet i begins at start
 pub record Summed (ns : List ℕ) (i start : ℕ) : Type 0 where
   pub low : i ≤ length ns
@@ -62,24 +64,17 @@ pub sum_start : (ns : List ℕ) → Summed ns 0 0
 sum_start ns = record { low = omega arith; begins = refl }
 
 module _ {ns : List ℕ} {i start : ℕ} (m : Summed ns i start) where
-  pub sum_small : length ns ≤ max_packets → ((k : ℕ) → get_or ns k 0 < 2 ^ 32) → start ≤ 2 ^ 38
-  sum_small few h = omega (arith, few, m.low, m.begins, start_small i ns h)
+  pub sum_within : i < length ns → start + get_or ns i 0 ≤ total ns
+  sum_within h = omega (arith, m.begins, start_within i ns h)
 
   pub sum_next : i < length ns → Summed ns (i + 1) (start + get_or ns i 0)
   sum_next h =
       let more : suc i ≡ i + 1 = omega arith in
       record { low = omega arith; begins = ap (λ k. k + get_or ns i 0) m.begins ∙ sym (start_next i ns h) ∙ ap (λ k. start_of k ns) more }
 
-  pub sum_end : length ns ≤ i → start ≡ total ns
-  sum_end h = let all : i ≡ length ns = omega (arith, m.low) in m.begins ∙ ap (λ k. start_of k ns) all ∙ start_end ns
-
 -- a mask with as many ones as there are packets
-pub captures : (ns : List ℕ) (c : Capture) → length ns ≤ max_packets → c.end ≡ total ns → c.all + 1 ≡ 2 ^ length ns → (s : List ℕ) → Captured s ns c
-captures ns c few e a s = record {
-  few = few;
-  end = e;
-  all = omega (arith, a, all_ones (packet_bytes ns s), ap (λ k. 2 ^ k) (packets_long ns s));
-}
+pub ones : (ns s : List ℕ) {all : ℕ} → all + 1 ≡ 2 ^ length ns → all ≡ all_mask (packet_bytes ns s)
+ones ns s a = omega (arith, a, all_ones (packet_bytes ns s), ap (λ k. 2 ^ k) (packets_long ns s))
 
 -- ## A packet cut out of the slice
 
@@ -107,55 +102,53 @@ cut s start n a b p q = go (leb (length s) start) refl
 
 -- ## The mask of a field, from the last packet to the first
 
--- the packets from i on are in the mask, and packet i begins at start
-pub record Masked (f : ℕ) (s ns : List ℕ) (i start mask : ℕ) : Type 0 where
-  pub low : i ≤ length ns
-  pub begins : start ≡ start_of i ns
-  pub is : mask ≡ field_mask f (drop i (packet_bytes ns s))
+total_push : (ns : List ℕ) (n : ℕ) → total (ns ++ n ∷ []) ≡ total ns + n
+total_push [] n = omega arith
+total_push (m ∷ ns) n = omega (arith, total_push ns n)
 
-pub masked_start : (f : ℕ) (s ns : List ℕ) {end : ℕ} → end ≡ total ns → Masked f s ns (length ns) end 0
-masked_start f s ns e = record {
-  low = omega arith;
-  begins = e ∙ sym (start_end ns);
-  is = sym (ap (field_mask f) (past (packet_bytes ns s) (length ns) (omega (arith, packets_long ns s))));
-}
+-- the packets behind those that are left are in the mask, and begin at start
+pub record Masked (f : ℕ) (s ns left : List ℕ) (start mask : ℕ) : Type 0 where
+  pub behind : List ℕ
+  pub whole : left ++ behind ≡ ns
+  pub begins : start ≡ total left
+  pub is : mask ≡ field_mask f (packet_bytes behind (drop start s))
 
-module _ {f : ℕ} {s ns : List ℕ} {i start mask : ℕ} (m : Masked f s ns i start mask) where
-  module _ (h : 0 < i) where
-    abbrev k : ℕ
-    k = i - 1
+pub masked_start : (f : ℕ) (s ns : List ℕ) {end : ℕ} → end ≡ total ns → Masked f s ns ns end 0
+masked_start f s ns e = record { behind = []; whole = append-nil ns; begins = e; is = refl }
 
-    in_list : k < length ns
-    in_list = omega (arith, m.low)
+module _ {f : ℕ} {s ns left : List ℕ} {start mask : ℕ} (m : Masked f s ns left start mask) (left' : List ℕ) (n : ℕ) (last : left ≡ left' ++ n ∷ []) where
+  pub start_back : start ≡ total left' + n
+  start_back = m.begins ∙ ap total last ∙ total_push left' n
 
-    same_i : suc k ≡ i
-    same_i = omega arith
+  pub mask_small : length ns ≤ max_packets → 2 * mask + 1 < 2 ^ 64
+  mask_small few =
+      omega (
+        arith,
+        few,
+        m.is,
+        mask_below (λ p. packet_of p f) (packet_bytes m.behind (drop start s)) 63 (omega (arith, few, packets_long m.behind (drop start s), count)),
+      )
+    where
+      count : length left' + 1 + length m.behind ≡ length ns
+      count = omega (arith, length-append left' (n ∷ []), length-append left m.behind, ap length last, ap length m.whole)
 
-    pub start_back : start ≡ start_of k ns + get_or ns k 0
-    start_back = m.begins ∙ ap (λ j. start_of j ns) (sym same_i) ∙ start_next k ns in_list
+  pub masked_next : {from a b mask' : ℕ} {x : Bool} → from ≡ start - n → a ≡ min from (length s) → b ≡ min start (length s)
+      → x ≡ get_or (unpack (take (b - a) (drop a s))) f false → mask' ≡ bit x + 2 * mask → Masked f s ns left' from mask'
+  masked_next {from} {a} {b} {mask'} {x} e p q g w =
+      let over : from + n ≡ start = omega (arith, e, start_back) in
+      let piece : take (b - a) (drop a s) ≡ take n (drop from s) = cut s from n a b p (omega (arith, q, over)) in
+      let found : x ≡ packet_of (take n (drop from s)) f = g ∙ ap (λ (l : List ℕ). get_or (unpack l) f false) piece in
+      let rest : drop start s ≡ drop n (drop from s) = ap (λ k. drop k s) (sym over) ∙ sym (drop-drop n from s) in
+      record {
+        behind = n ∷ m.behind;
+        whole = sym (append_assoc left' (n ∷ []) m.behind) ∙ ap (λ (l : List ℕ). l ++ m.behind) (sym last) ∙ m.whole;
+        begins = omega (arith, e, start_back);
+        is = w ∙ (λ j. bit (found j) + 2 * m.is j) ∙ ap (λ (l : List ℕ). bit (packet_of (take n (drop from s)) f) + 2 * field_mask f (packet_bytes m.behind l)) rest;
+      }
 
-    pub mask_small : length ns ≤ max_packets → 2 * mask + 1 < 2 ^ 64
-    mask_small few =
-        omega (arith, m.is, mask_below (λ p. packet_of p f) (drop i (packet_bytes ns s)) 63 (omega (arith, length-drop i (packet_bytes ns s), packets_long ns s, few)))
-
-    pub masked_next : {from a b mask' : ℕ} {x : Bool} → from ≡ start - get_or ns k 0 → a ≡ min from (length s) → b ≡ min start (length s)
-        → x ≡ get_or (unpack (take (b - a) (drop a s))) f false → mask' ≡ bit x + 2 * mask → Masked f s ns k from mask'
-    masked_next {from} {a} {b} {mask'} {x} e p q g w =
-        let begins : from ≡ start_of k ns = omega (arith, e, start_back) in
-        let piece = take (get_or ns k 0) (drop (start_of k ns) s) in
-        let whole : take (b - a) (drop a s) ≡ piece = cut s from (get_or ns k 0) a b p (omega (arith, q, e, start_back)) ∙ ap (λ j. take (get_or ns k 0) (drop j s)) begins in
-        let found : x ≡ packet_of piece f = g ∙ ap (λ (l : List ℕ). get_or (unpack l) f false) whole in
-        record {
-          low = omega (arith, in_list);
-          begins = begins;
-          is =
-              w ∙ (λ j. bit (found j) + 2 * m.is j)
-              ∙ ap (λ j. bit (packet_of piece f) + 2 * field_mask f (drop j (packet_bytes ns s))) (sym same_i)
-              ∙ ap (field_mask f) (sym (packet_at k ns s in_list));
-        }
-
-  pub masked_end : i ≤ 0 → mask ≡ field_mask f (packet_bytes ns s)
-  masked_end h = let z : i ≡ 0 = omega arith in m.is ∙ ap (λ j. field_mask f (drop j (packet_bytes ns s))) z
+pub masked_end : {f : ℕ} {s ns left : List ℕ} {start mask : ℕ} → Masked f s ns left start mask → length left ≡ 0 → mask ≡ field_mask f (packet_bytes ns s)
+masked_end {f} {s} {left = []} m h = m.is ∙ λ j. field_mask f (packet_bytes (m.whole j) (drop (m.begins j) s))
+masked_end {left = n ∷ left} m h = absurd (omega (arith, h))
 
 -- ## Is every packet wide enough?
 
@@ -164,9 +157,6 @@ module _ (n : ℕ) (ns s : List ℕ) where
   pub record Judged (i start : ℕ) : Type 0 where
     pub sum : Summed ns i start
     pub answer : wide_enough n (packet_bytes ns s) 0 ≡ wide_enough n (drop i (packet_bytes ns s)) i
-
-  pub judged_start : Judged 0 0
-  judged_start = record { sum = sum_start ns; answer = refl }
 
   module _ {i start : ℕ} (j : Judged i start) where
     module _ (h : i < length ns) {a b : ℕ} (p : a ≡ min start (length s)) (q : b ≡ min (start + get_or ns i 0) (length s)) where
@@ -178,10 +168,9 @@ module _ (n : ℕ) (ns s : List ℕ) where
           j.answer ∙ ap (λ (l : List (List ℕ)). wide_enough n l i) (packet_at i ns s h)
           ∙ ap (λ k. and_then (need (leb n (8 * k)) 50 i) λ _. wide_enough n (drop (suc i) (packet_bytes ns s)) (i + 1)) long
 
-      pub judged_short : b - a < (n + 7) / 8 → ShortFound n (packet_bytes ns s) (length ns) i
+      pub judged_short : b - a < (n + 7) / 8 → ShortFound n (packet_bytes ns s) (Some i)
       judged_short g =
           opened ∙ ap (λ x. and_then (need x 50 i) λ _. wide_enough n (drop (suc i) (packet_bytes ns s)) (i + 1)) (lt-leb n (8 * (b - a)) (omega arith))
-          ∙ ap (λ x. cond x (refuse 50 i) (ok tt)) (sym (lt-ltb i (length ns) h))
 
       pub judged_next : (n + 7) / 8 ≤ b - a → Judged (i + 1) (start + get_or ns i 0)
       judged_next g =
@@ -193,7 +182,5 @@ module _ (n : ℕ) (ns s : List ℕ) where
                 ∙ ap (λ m. wide_enough n (drop m (packet_bytes ns s)) (i + 1)) more;
           }
 
-    pub judged_end : length ns ≤ i → ShortFound n (packet_bytes ns s) (length ns) i
-    judged_end h =
-        j.answer ∙ ap (λ (l : List (List ℕ)). wide_enough n l i) (past (packet_bytes ns s) i (omega (arith, packets_long ns s)))
-        ∙ ap (λ x. cond x (refuse 50 i) (ok tt)) (sym (le-ltb i (length ns) h))
+    pub judged_end : length ns ≤ i → ShortFound n (packet_bytes ns s) None
+    judged_end h = j.answer ∙ ap (λ (l : List (List ℕ)). wide_enough n l i) (past (packet_bytes ns s) i (omega (arith, packets_long ns s)))

@@ -6,13 +6,23 @@ use Prim.Native.Nat.{ℕ, zero, suc, ◌+◌, ◌-◌, ◌*◌, ◌/◌, ◌^◌
 use native.Mathlib.Omega.{arith}
 use borrow.Author.Tests.{lt-ltb, le-leb, lt-leb, leb-true, leb-false, ltb-true, eqb-true}
 use lib.Dec.{leb, ltb, eqb}
-use lib.ListN.{length, drop, get_or, length-drop}
-use lib.Seq.{drop-drop}
+use lib.ListN.{length, take, drop, get_or, length-drop}
+use lib.Seq.{drop-drop, take_all}
+use Rattle.std.specs.Prelude.{Result, Ok, Err}
+use Rattle.refusals.specs.Refusals.{number_of}
+use Rattle.refusals.specs.declared.Refused.{Refused}
+use Rattle.expr.specs.Kinds.{kind_number}
+use Rattle.expr.specs.declared.kind.Kind.{Kind}
+use Rattle.expr.specs.declared.kind.Kind.TheVariants as kind
+use Rattle.expr.specs.Answers.{answered}
+use Rattle.cores.specs.declared.Counts.{Counts}
+use Rattle.std.specs.Array.{IsFirstChunk}
+use Rattle.std.proofs.lemmas.List.{get_or-take, get_or-drop}
 use Rattle.literals.proofs.Logic.{and_both, and_left, and_right, or_right}
 use Rattle.expr.specs.Answers.{Answer, ok, refuse, and_then, map_answer, need}
 use Rattle.expr.specs.Terms.{Atom, Zero, One, Top, Dup, End, Assign, Test, Op1, Complement, Star, LtlNext, Op2, Union, Intersect, Xor, Difference, Sequence, LtlUntil, Core, test_kind, atom_kind, op1_kind, op2_kind}
 use Rattle.expr.specs.Records.{Record}
-use Rattle.expr.specs.Results.{arity_of, fields_answer}
+use Rattle.expr.specs.Results.{arity_of}
 use Rattle.expr.proofs.Arities.{arity_in, arity_small}
 use Rattle.expr.proofs.Slices.{Sliced, bytes_each}
 use Rattle.desugar.specs.CoreRecords.{atom_field, atom_value}
@@ -22,16 +32,12 @@ use Rattle.desugar.proofs.Regions.{same_at}
 use Rattle.cores.specs.Reading.{max_core, CoreNode, atom, unary, binary, core_node, Cores, due_behind, put_over, core_at, read_cores, decode_core, read_core}
 use Rattle.cores.specs.Results.{CoreRecordFound, ShortFound, operator_bytes, atom_bytes, widened, settled, counts_of, core_answer}
 use Rattle.packets.specs.Running.{passing}
-use Rattle.packets.specs.Results.{settles, combined, leaf_mask, Frame, first, second, State, state_of, skipping, fed, opened, looked, stepped, Stepped, nothing_yet, Skims, none_read, one_more, pair_bytes, PairIs, PairsRead, SkimsTo, Skipped, with_mask, Passed}
+use Rattle.packets.specs.Results.{settles, combined, leaf_mask, Frame, first, second, State, state_of, skipping, fed, opened, looked, stepped, Stepped, Skims, none_read, one_more, pair_bytes, PairIs, PairsRead, Behind, Between, Starts, Skipped, Passed}
 use Rattle.cores.specs.declared.records.CoreRecord.{CoreRecord}
-use Rattle.cores.specs.declared.records.RecordRead.TheVariants as record_read
 use Rattle.packets.specs.declared.frames.Progress.{Progress}
-use Rattle.packets.specs.declared.PassRead.TheVariants as pass-read
-use Rattle.packets.specs.declared.skim.Skimmed.{Skimmed}
 use Rattle.packets.specs.declared.skim.Spot.{Spot}
-use Rattle.packets.specs.declared.skim.Pair.{Pair}
-use Rattle.cores.specs.declared.CoreRead.{CoreRead}
-use Rattle.cores.specs.declared.CoreRead.TheVariants as core_read
+use Rattle.packets.specs.declared.cursor.Cursor.{Cursor}
+use Rattle.packets.specs.declared.pairs.Pair.{Pair}
 use Rattle.cores.proofs.CoreForm.{Wrote, core_only}
 use Rattle.cores.proofs.CoreRecords.{operator_at, atom_at}
 use Rattle.cores.proofs.JudgeSteps.{Judging, bytes_drop, due_is, judge_start, judge_next, judge_done}
@@ -176,18 +182,18 @@ rest_start s ps room c e = record {
   mask = λ _. refl;
 }
 
-module _ (s : List ℕ) (at place : ℕ) (each : Sliced s) (low : place < max_core) (d : CoreRecord) (f : CoreRecordFound (drop at s) (record_read.Found d)) where
+module _ (s : List ℕ) (at place : ℕ) (each : Sliced s) (low : place < max_core) (d : CoreRecord) (f : CoreRecordFound (drop at s) (Ok d)) where
   abbrev h : Record
-  h = core_record d.kind d.field d.value
+  h = core_record (kind_number d.kind) d.field d.value
 
   wrote : Wrote (drop at s) h (drop d.size (drop at s))
   wrote = core_only (drop at s) _ _ (bytes_drop at s (bytes_each s each)) (sym f.answer)
 
-  behind_due : (n : ℕ) → due_behind (core_node h) n ≡ arity_of d.kind + n
+  behind_due : (n : ℕ) → due_behind (core_node h) n ≡ arity_of (kind_number d.kind) + n
   behind_due n = due_is (sym f.answer) wrote n
 
-  rest_behind : {ps : List (List ℕ)} {room : ℕ} {t : Bool} {st st' : State} {c : Core} (n : ℕ) → Rest s ps room at (suc n) place t st c → (3 * (place + 1) ≤ room → st' ≡ stepped ps st d.kind d.field d.value)
-      → Rest s ps room (at + d.size) (due_behind (core_node h) n) (place + 1) (t && test_kind d.kind) st' c
+  rest_behind : {ps : List (List ℕ)} {room : ℕ} {t : Bool} {st st' : State} {c : Core} (n : ℕ) → Rest s ps room at (suc n) place t st c → (3 * (place + 1) ≤ room → st' ≡ stepped ps st (kind_number d.kind) d.field d.value)
+      → Rest s ps room (at + d.size) (due_behind (core_node h) n) (place + 1) (t && test_kind (kind_number d.kind)) st' c
   rest_behind {ps} {room} {t} {st} {st'} {c} n r w = go (read_cores (max_core - (place + 1)) (due_behind (core_node h) n) (place + 1) (drop d.size (drop at s))) refl (ap (core_at (read_cores (max_core - (place + 1))) n place) f.answer ∙ more)
     where
       more : read_cores (suc (max_core - (place + 1))) (suc n) place (drop at s) ≡ ok (r.cores, [])
@@ -195,7 +201,7 @@ module _ (s : List ℕ) (at place : ℕ) (each : Sliced s) (low : place < max_co
 
       go : (x : Answer (Cores (due_behind (core_node h) n) × List ℕ)) → read_cores (max_core - (place + 1)) (due_behind (core_node h) n) (place + 1) (drop d.size (drop at s)) ≡ x
           → map_answer {B = Cores (suc n) × List ℕ} (λ q. (put_over (core_node h) n q.0, q.1)) x ≡ ok (r.cores, [])
-          → Rest s ps room (at + d.size) (due_behind (core_node h) n) (place + 1) (t && test_kind d.kind) st' c
+          → Rest s ps room (at + d.size) (due_behind (core_node h) n) (place + 1) (t && test_kind (kind_number d.kind)) st' c
       go (refuse q p) k j = let z : ◌≡◌ {A = ℕ} 0 1 = cc in absurd (omega arith)
       go (ok q) k j =
           let none : q.1 ≡ [] = ap rest_of j in
@@ -204,52 +210,66 @@ module _ (s : List ℕ) (at place : ℕ) (each : Sliced s) (low : place < max_co
             cores = q.0;
             reads = ap (read_cores (max_core - (place + 1)) (due_behind (core_node h) n) (place + 1)) (sym (drop-drop d.size at s)) ∙ k ∙ ap (λ (l : List ℕ). ok (q.0, l)) none;
             tests =
-                and_assoc t (test_kind d.kind) (all_tests (due_behind (core_node h) n) q.0)
-                ∙ ap (λ b. t && b) (sym (node_tests (core_node h) d.kind d.field d.value (node_words wrote) n q.0) ∙ ap (all_tests (suc n)) same) ∙ r.tests;
+                and_assoc t (test_kind (kind_number d.kind)) (all_tests (due_behind (core_node h) n) q.0)
+                ∙ ap (λ b. t && b) (sym (node_tests (core_node h) (kind_number d.kind) d.field d.value (node_words wrote) n q.0) ∙ ap (all_tests (suc n)) same) ∙ r.tests;
             mask = λ l.
                 ap (λ (z : State). finished ps z (due_behind (core_node h) n) q.0) (w l)
-                ∙ sym (node_stepped ps st (core_node h) d.kind d.field d.value (node_words wrote) n (behind_due n) q.0)
+                ∙ sym (node_stepped ps st (core_node h) (kind_number d.kind) d.field d.value (node_words wrote) n (behind_due n) q.0)
                 ∙ ap (finished ps st (suc n)) same ∙ r.mask (omega (arith, l));
           }
 
-  rest_next : {ps : List (List ℕ)} {room due n : ℕ} {t : Bool} {st st' : State} {c : Core} → 0 < due → n ≡ arity_of d.kind → Rest s ps room at due place t st c
-      → (3 * (place + 1) ≤ room → st' ≡ stepped ps st d.kind d.field d.value)
-      → Rest s ps room (at + d.size) (due - 1 + n) (place + 1) (t && test_kind d.kind) st' c
+  rest_next : {ps : List (List ℕ)} {room due n : ℕ} {t : Bool} {st st' : State} {c : Core} → 0 < due → n ≡ arity_of (kind_number d.kind) → Rest s ps room at due place t st c
+      → (3 * (place + 1) ≤ room → st' ≡ stepped ps st (kind_number d.kind) d.field d.value)
+      → Rest s ps room (at + d.size) (due - 1 + n) (place + 1) (t && test_kind (kind_number d.kind)) st' c
   rest_next {ps} {room} {due} {n} {t} {st} {st'} {c} some e r w =
       let more : due ≡ suc (due - 1) = omega arith in
       let count : due_behind (core_node h) (due - 1) ≡ due - 1 + n = omega (arith, behind_due (due - 1), e) in
-      subst (λ q. Rest s ps room (at + d.size) q (place + 1) (t && test_kind d.kind) st' c) count
+      subst (λ q. Rest s ps room (at + d.size) q (place + 1) (t && test_kind (kind_number d.kind)) st' c) count
       (rest_behind (due - 1) (subst (λ q. Rest s ps room at q place t st c) more r) w)
 
 -- ## The loop
 
 -- what was read so far is good, and what is left decides the answer
-pub record Passing (s : List ℕ) (ps : List (List ℕ)) (room : ℕ) (list : List ℕ) (at due place : ℕ) (x : Answer ℕ) (t : Bool) (run : Progress) : Type 0 where
+pub record Passing (s : List ℕ) (ps : List (List ℕ)) (room : ℕ) (list : List (List ℕ)) (at due place : ℕ) (x : Answer ℕ) (t : Bool) (run : Progress) : Type 0 where
   pub judging : Judging s room at due place x
-  pub long : length list ≡ room
+  pub long : length list ≡ room / 3
   pub deep : run.depth ≤ place
-  pub fits : 3 * run.depth ≤ length list
+  pub fits : run.depth ≤ length list
   pub few : run.skip ≤ 2 * place
   rest : (c : Core) → decode_core s ≡ ok c → Rest s ps room at due place t (state_of list run) c
 
-pub pass_start : (s : List ℕ) (ps : List (List ℕ)) (list : List ℕ) {run : Progress} → run ≡ nothing_yet → Passing s ps (length list) list 0 1 0 (ok 0) true run
-pass_start s ps list e = subst (Passing s ps (length list) list 0 1 0 (ok 0) true) (sym e) (record {
-  judging = judge_start s (length list);
-  long = refl;
-  deep = omega arith;
-  fits = omega arith;
-  few = omega arith;
-  rest = rest_start s ps (length list);
-})
+-- the same of a spot
+abbrev pub PassingAt : (s : List ℕ) (ps : List (List ℕ)) (room : ℕ) (list : List (List ℕ)) → Spot → Bool → Type 0
+PassingAt s ps room list c t = Passing s ps room list c.cursor.at c.due c.cursor.place (answered c.cursor.fields) t c.run
+
+-- at equal numbers
+pub passing_same : {s : List ℕ} {ps : List (List ℕ)} {room : ℕ} {list : List (List ℕ)} {at at' due due' place place' : ℕ} {x x' : Answer ℕ} {t : Bool} {run run' : Progress}
+    → at ≡ at' → due ≡ due' → place ≡ place' → x ≡ x' → run ≡ run' → Passing s ps room list at due place x t run → Passing s ps room list at' due' place' x' t run'
+passing_same {s} {ps} {room} {list} {at} {at'} {due} {due'} {place} {place'} {x} {x'} {t} {run} {run'} a d p e r w =
+    subst (Passing s ps room list at' due' place' x' t) r
+    (subst (λ y. Passing s ps room list at' due' place' y t run) e
+    (subst (λ n. Passing s ps room list at' due' n x t run) p
+    (subst (λ n. Passing s ps room list at' n place x t run) d (subst (λ n. Passing s ps room list n due place x t run) a w))))
+
+pub pass_start : (s : List ℕ) (ps : List (List ℕ)) (room : ℕ) (list : List (List ℕ)) {c : Spot} → length list ≡ room / 3 → Starts s c → PassingAt s ps room list c true
+pass_start s ps room list long k =
+    passing_same (sym k.cursor.at) (sym k.due) (sym k.cursor.place) (sym k.cursor.fields) (sym k.run) (record {
+      judging = judge_start s room;
+      long = long;
+      deep = omega arith;
+      fits = omega arith;
+      few = omega arith;
+      rest = rest_start s ps room;
+    })
 
 -- one record more
-pub pass_record : {s : List ℕ} {ps : List (List ℕ)} {room : ℕ} {list : List ℕ} {at due place : ℕ} {x : Answer ℕ} {t : Bool} {run : Progress}
-    → Passing s ps room list at due place x t run → Sliced s → 0 < due → place < max_core → (d : CoreRecord) → CoreRecordFound (drop at s) (record_read.Found d)
-    → {n : ℕ} {y : Answer ℕ} {t' : Bool} → n ≡ arity_of d.kind → y ≡ widened x d.kind d.field place → t' ≡ (t && test_kind d.kind)
-    → {list' : List ℕ} {run' : Progress} → length list' ≡ length list → Stepped ps list run d list' run'
+pub pass_record : {s : List ℕ} {ps : List (List ℕ)} {room : ℕ} {list : List (List ℕ)} {at due place : ℕ} {x : Answer ℕ} {t : Bool} {run : Progress}
+    → Passing s ps room list at due place x t run → Sliced s → 0 < due → place < max_core → (d : CoreRecord) → CoreRecordFound (drop at s) (Ok d)
+    → {n : ℕ} {y : Answer ℕ} {t' : Bool} → n ≡ arity_of (kind_number d.kind) → y ≡ widened x (kind_number d.kind) d.field place → t' ≡ (t && test_kind (kind_number d.kind))
+    → {list' : List (List ℕ)} {run' : Progress} → length list' ≡ length list → Stepped ps list run d list' run'
     → Passing s ps room list' (at + d.size) (due - 1 + n) (place + 1) y t' run'
 pass_record {s} {ps} {room} {list} {at} {due} {place} {x} {t} {run} p each some low d f {n} {y} {t'} k g u {list'} {run'} long w = record {
-  judging = judge_next p.judging some low each f refl k g;
+  judging = judge_next p.judging some low each f k g;
   long = long ∙ p.long;
   deep = omega (arith, p.deep, w.deep);
   fits = omega (arith, long, w.fits);
@@ -260,7 +280,7 @@ pass_record {s} {ps} {room} {list} {at} {due} {place} {x} {t} {run} p each some 
 }
 
 -- records that are not looked at
-pub pass_skim : {s : List ℕ} {ps : List (List ℕ)} {room : ℕ} {list : List ℕ} {at due place : ℕ} {x : Answer ℕ} {t : Bool} {run : Progress}
+pub pass_skim : {s : List ℕ} {ps : List (List ℕ)} {room : ℕ} {list : List (List ℕ)} {at due place : ℕ} {x : Answer ℕ} {t : Bool} {run : Progress}
     → Passing s ps room list at due place x t run → Sliced s → {cores : ℕ} → cores ≤ run.skip → cores ≤ due
     → {at' place' skip' : ℕ} {x' : Answer ℕ} → Skims s at place cores x at' place' skip' x'
     → Passing s ps room list at' (due - cores + skip') place' x' t (record { depth = run.depth; mask = run.mask; skip = run.skip - cores + skip' })
@@ -271,8 +291,8 @@ pass_skim {s} {ps} {room} {list} {at} {due} {place} {x} {t} {run} p each {cores}
     (subst (λ q. Passing s ps room list at due place x t (record { depth = run.depth; mask = run.mask; skip = q })) skip p)
 pass_skim {s} {ps} {room} {list} {at} {due} {place} {x} {t} {run} p each {cores} l m (one_more {at' = at'} {place' = place'} {skip' = skip'} {x' = x'} k d some low f test) =
     let q = pass_skim p each l m k in
-    let a : ℕ = arity_of d.kind in
-    let y : Answer ℕ = widened x' d.kind d.field place' in
+    let a : ℕ = arity_of (kind_number d.kind) in
+    let y : Answer ℕ = widened x' (kind_number d.kind) d.field place' in
     let run' : Progress = record { depth = run.depth; mask = run.mask; skip = run.skip - cores + skip' } in
     let next =
     pass_record q each (omega (arith, some)) low d f refl refl (sym (ap (λ b. t && b) test ∙ and_true t)) refl
@@ -282,12 +302,11 @@ pass_skim {s} {ps} {room} {list} {at} {due} {place} {x} {t} {run} p each {cores}
     subst (λ n. Passing s ps room list (at' + d.size) n (place' + 1) y t (record { depth = run.depth; mask = run.mask; skip = run.skip - cores + (skip' - 1 + a) })) count
     (subst (λ n. Passing s ps room list (at' + d.size) (due - cores + skip' - 1 + a) (place' + 1) y t (record { depth = run.depth; mask = run.mask; skip = n })) skip next)
 
-pub pass_skipped : {s : List ℕ} {ps : List (List ℕ)} {room : ℕ} {list : List ℕ} {at due place : ℕ} {x : Answer ℕ} {t : Bool} {run : Progress}
-    → Passing s ps room list at due place x t run → Sliced s → {r : Spot} → Skipped s at place due x run r
-    → Passing s ps room list r.at r.due r.place (fields_answer r.fields) t r.run
-pass_skipped {s} {ps} {room} {list} {t = t} p each {r} k =
-    subst (λ q. Passing s ps room list r.at q r.place (fields_answer r.fields) t r.run) (sym k.due_is)
-    (subst (Passing s ps room list r.at _ r.place (fields_answer r.fields) t) (sym k.run_is) (pass_skim p each k.most k.within k.skims))
+pub pass_skipped : {s : List ℕ} {ps : List (List ℕ)} {room : ℕ} {list : List (List ℕ)} {t : Bool} (c r : Spot) → c.cursor.bytes.now ≡ s → PassingAt s ps room list c t → Sliced s → Skipped c r
+    → PassingAt s ps room list r t
+pass_skipped {s} c r same p each k =
+    passing_same refl (sym k.due_is) refl refl (sym k.run_is)
+    (pass_skim p each k.most k.within (subst (λ (l : List ℕ). Skims l c.cursor.at c.cursor.place k.cores (answered c.cursor.fields) r.cursor.at r.cursor.place k.skip (answered r.cursor.fields)) same k.skims))
 
 -- ## The end
 
@@ -299,23 +318,23 @@ settled_room n (ok m) room {q} e = go (leb (3 * n) room) refl e
     go true h d = leb-true (3 * n) room h
     go false h d = let z : ◌≡◌ {A = ℕ} 0 1 = cc in absurd (omega arith)
 
-pub pass_refused : {s : List ℕ} {room : ℕ} {ps : List (List ℕ)} {n p : ℕ} → refuse n p ≡ counts_of (read_core s room) → Passed s room ps (pass-read.Refused n p)
-pass_refused e = record { answer = e; core = λ c d. tt }
+pub pass_refused : {s : List ℕ} {room : ℕ} {ps : List (List ℕ)} (e : Refused) → refuse (number_of e.refusal) e.place ≡ counts_of (read_core s room) → Passed s room ps (Err e)
+pass_refused e k = record { answer = k; core = λ c d. tt }
 
-pub pass_done : {s : List ℕ} {ps : List (List ℕ)} {room : ℕ} {list : List ℕ} {at due place : ℕ} {x : Answer ℕ} {t : Bool} {run : Progress}
-    → Passing s ps room list at due place x t run → due ≤ 0 → length s ≤ at → (r : CoreRead) → core_answer r ≡ settled place x (length list)
-    → Passed s room ps (with_mask r t run.mask)
-pass_done {s} {ps} {room} {list} {at} {due} {place} {x} {t} {run} p none over r e = go r (e ∙ ap (settled place x) p.long)
-  where
-    go : (q : CoreRead) → core_answer q ≡ settled place x room → Passed s room ps (with_mask q t run.mask)
-    go (core_read.Refused n k) e' = record { answer = e' ∙ judge_done p.judging none over; core = λ c g. tt }
-    go (core_read.Found d) e' = record {
-      answer = e' ∙ judge_done p.judging none over;
-      core = λ c g.
-          let z : due ≡ 0 = omega arith in
-          let left : Rest s ps room at 0 place t (state_of list run) c = subst (λ n. Rest s ps room at n place t (state_of list run) c) z (p.rest c g) in
-          (sym (and_true t) ∙ left.tests, left.mask (settled_room place x room e'));
-    }
+pub pass_done : {s : List ℕ} {ps : List (List ℕ)} {room : ℕ} {list : List (List ℕ)} {at due place : ℕ} {x : Answer ℕ} {t : Bool} {run : Progress}
+    → Passing s ps room list at due place x t run → due ≤ 0 → length s ≤ at → (d : Counts) → core_answer (Ok d) ≡ settled place x room
+    → Passed s room ps (Ok (record { count = d.count; fields = d.fields; test = t; mask = run.mask }))
+pass_done {s} {ps} {room} {list} {at} {due} {place} {x} {t} {run} p none over d e = record {
+  answer = e ∙ judge_done p.judging none over;
+  core = λ c g.
+      let z : due ≡ 0 = omega arith in
+      let left : Rest s ps room at 0 place t (state_of list run) c = subst (λ n. Rest s ps room at n place t (state_of list run) c) z (p.rest c g) in
+      (sym (and_true t) ∙ left.tests, left.mask (settled_room place x room e));
+}
+
+pub pass_unsettled : {s : List ℕ} {ps : List (List ℕ)} {room : ℕ} {list : List (List ℕ)} {at due place : ℕ} {x : Answer ℕ} {t : Bool} {run : Progress}
+    → Passing s ps room list at due place x t run → due ≤ 0 → length s ≤ at → (e : Refused) → core_answer (Err e) ≡ settled place x room → Passed s room ps (Err e)
+pass_unsettled p none over e k = record { answer = k ∙ judge_done p.judging none over; core = λ c g. tt }
 
 -- how far it gets
 pub record Bounded (place cores place' skip' : ℕ) : Type 0 where
@@ -327,7 +346,7 @@ pub skims_bounded : {s : List ℕ} {at place cores : ℕ} {x : Answer ℕ} {at' 
 skims_bounded l none_read = record { low = l; more = omega arith; few = omega arith }
 skims_bounded l (one_more {skip' = skip'} k d some low f test) =
     let b = skims_bounded l k in
-    record { low = omega (arith, low); more = omega (arith, b.more); few = omega (arith, b.few, some, arity_small d.kind (arity_of d.kind) refl) }
+    record { low = omega (arith, low); more = omega (arith, b.more); few = omega (arith, b.few, some, arity_small (kind_number d.kind) (arity_of (kind_number d.kind)) refl) }
 
 -- ## Pairs
 
@@ -368,8 +387,8 @@ module _ {s : List ℕ} {from index fields at place most : ℕ} (k : Pairing s f
   pair_end : at + p.operator.size + p.test.size ≡ at + d.size
   pair_end = omega (arith, p.size)
 
-  behind_operator : CoreRecordFound (drop (at + p.operator.size) s) (record_read.Found p.test)
-  behind_operator = subst (λ (l : List ℕ). CoreRecordFound l (record_read.Found p.test)) (drop-drop p.operator.size at s) p.second
+  behind_operator : CoreRecordFound (drop (at + p.operator.size) s) (Ok p.test)
+  behind_operator = subst (λ (l : List ℕ). CoreRecordFound l (Ok p.test)) (drop-drop p.operator.size at s) p.second
 
   pub pair_inside : at + d.size ≤ length s
   pair_inside =
@@ -382,21 +401,29 @@ module _ {s : List ℕ} {from index fields at place most : ℕ} (k : Pairing s f
     skims = λ skip h.
         let o : CoreRecord = p.operator in
         let t : CoreRecord = p.test in
-        let one = one_more (k.skims skip h) o (omega (arith, h)) (omega (arith, below)) p.first (operator_kind o.kind p.low p.high) in
+        let one = one_more (k.skims skip h) o (omega (arith, h)) (omega (arith, below)) p.first (operator_kind (kind_number o.kind) p.low p.high) in
         let two =
-        one_more one t (omega (arith, h, operator_arity o.kind p.low p.high)) (omega (arith, below)) behind_operator (ap test_kind p.kind) in
+        one_more one t (omega (arith, h, operator_arity (kind_number o.kind) p.low p.high)) (omega (arith, below)) behind_operator (ap test_kind p.kind) in
         let places : place + 1 + 1 ≡ place + 2 = omega arith in
-        let none : arity_of t.kind ≡ 0 = ap arity_of p.kind in
-        let skips : skip - 1 + arity_of o.kind - 1 + arity_of t.kind ≡ skip = omega (arith, h, none, operator_arity o.kind p.low p.high) in
-        let counts : widened (widened (ok most) o.kind o.field place) t.kind t.field (place + 1) ≡ ok m =
-        ap (λ x. widened x t.kind t.field (place + 1)) (no_larger o.kind o.field place most p.low)
-        ∙ test_larger t.kind t.field (place + 1) most p.kind p.below ∙ ap ok (ap (max most) (sym p.need) ∙ sym e) in
+        let none : arity_of (kind_number t.kind) ≡ 0 = ap arity_of p.kind in
+        let skips : skip - 1 + arity_of (kind_number o.kind) - 1 + arity_of (kind_number t.kind) ≡ skip = omega (arith, h, none, operator_arity (kind_number o.kind) p.low p.high) in
+        let counts : widened (widened (ok most) (kind_number o.kind) o.field place) (kind_number t.kind) t.field (place + 1) ≡ ok m =
+        ap (λ x. widened x (kind_number t.kind) t.field (place + 1)) (no_larger (kind_number o.kind) o.field place most p.low)
+        ∙ test_larger (kind_number t.kind) t.field (place + 1) most p.kind p.below ∙ ap ok (ap (max most) (sym p.need) ∙ sym e) in
         skims_same pair_end places skips counts two;
   }
 
-pub pairs_read : {s : List ℕ} {from index fields at place most : ℕ} → Pairing s from index fields at place most
-    → PairsRead s from index fields (record { at = at; place = place; most = most })
-pairs_read k = record { inside = k.inside; skims = k.skims }
+-- the kind of a number from 7 to 11
+operator_of : (n : ℕ) → 7 ≤ n → n ≤ 11 → (k : Kind) × (kind_number k ≡ n)
+operator_of n l h = go (n - 7) (omega arith) (omega arith)
+  where
+    go : (i : ℕ) → n ≡ 7 + i → i < 5 → (k : Kind) × (kind_number k ≡ n)
+    go zero e b = (kind.Union, sym e)
+    go (suc zero) e b = (kind.Intersect, sym e)
+    go (suc (suc zero)) e b = (kind.Xor, sym e)
+    go (suc (suc (suc zero))) e b = (kind.Difference, sym e)
+    go (suc (suc (suc (suc zero)))) e b = (kind.Sequence, sym e)
+    go (suc (suc (suc (suc (suc i))))) e b = absurd (omega arith)
 
 -- a pair that nine bytes tell
 module _ (s : List ℕ) (at : ℕ) (h : at + 9 ≤ length s) (each : Sliced s) {f : ℕ}
@@ -414,41 +441,66 @@ module _ (s : List ℕ) (at : ℕ) (h : at + 9 ≤ length s) (each : Sliced s) {
   further : (m n k : ℕ) → m + n ≡ k → get_or s (at + k) 0 ≡ get_or s (at + m + n) 0
   further m n k q = same_at s (omega (arith, q))
 
-  operator_there : CoreRecordFound (drop at s) (record_read.Found (record { kind = byte 1; field = 0; value = 0; size = 2 }))
-  operator_there = operator_at s at (omega (arith, h)) (and_left (operator_bytes (get_or s at 0) (byte 1)) (atom_bytes (byte 2) (byte 3) f (byte 8)) both)
-
-  test_there : CoreRecordFound (drop (at + 2) s) (record_read.Found (record { kind = get_or s (at + 2 + 1) 0; field = f; value = byte 2 / 32; size = 6 + byte 2 / 32 }))
-  test_there =
-      atom_at s (at + 2) (omega (arith, h)) each
-      (is ∙ λ i. further 2 2 4 refl i + 256 * (further 2 3 5 refl i + 256 * (further 2 4 6 refl i + 256 * further 2 5 7 refl i)))
-      ((λ i. atom_bytes (byte 2) (sym (further 2 1 3 refl) i) f (sym (further 2 6 8 refl) i)) ∙ and_right (operator_bytes (get_or s at 0) (byte 1)) (atom_bytes (byte 2) (byte 3) f (byte 8)) both)
-
   -- an operator begins at 7
   operator_low : 7 ≤ byte 1
   operator_low =
       let a = and_left (operator_bytes (get_or s at 0) (byte 1)) (atom_bytes (byte 2) (byte 3) f (byte 8)) both in
       leb-true 7 (byte 1) (and_left (leb 7 (byte 1)) (leb (byte 1) 15) (and_right (eqb (get_or s at 0) 1) (leb 7 (byte 1) && leb (byte 1) 15) a))
 
+  -- the operator's kind
+  operator_is : (k : Kind) × (kind_number k ≡ byte 1)
+  operator_is = operator_of (byte 1) operator_low (leb-true (byte 1) 11 (and_left (leb (byte 1) 11) (eqb (byte 3) 6 && ltb f 4294967295) limits))
+
+  test_is : 6 ≡ byte 3
+  test_is = sym (eqb-true (byte 3) 6 (and_left (eqb (byte 3) 6) (ltb f 4294967295) (and_right (leb (byte 1) 11) (eqb (byte 3) 6 && ltb f 4294967295) limits)))
+
+  operator_there : CoreRecordFound (drop at s) (Ok (record { kind = operator_is.0; field = 0; value = 0; size = 2 }))
+  operator_there = operator_at s at (omega (arith, h)) operator_is.0 operator_is.1 (and_left (operator_bytes (get_or s at 0) (byte 1)) (atom_bytes (byte 2) (byte 3) f (byte 8)) both)
+
+  test_there : CoreRecordFound (drop (at + 2) s) (Ok (record { kind = kind.Test; field = f; value = byte 2 / 32; size = 6 + byte 2 / 32 }))
+  test_there =
+      atom_at s (at + 2) (omega (arith, h)) kind.Test (test_is ∙ further 2 1 3 refl) each
+      (is ∙ λ i. further 2 2 4 refl i + 256 * (further 2 3 5 refl i + 256 * (further 2 4 6 refl i + 256 * further 2 5 7 refl i)))
+      ((λ i. atom_bytes (byte 2) (sym (further 2 1 3 refl) i) f (sym (further 2 6 8 refl) i)) ∙ and_right (operator_bytes (get_or s at 0) (byte 1)) (atom_bytes (byte 2) (byte 3) f (byte 8)) both)
+
   pub field_below : f < 4294967295
   field_below = ltb-true f 4294967295 (and_right (eqb (byte 3) 6) (ltb f 4294967295) (and_right (leb (byte 1) 11) (eqb (byte 3) 6 && ltb f 4294967295) limits))
 
   pub pair_at : PairIs (drop at s) (record { size = 8 + byte 2 / 32; need = f + 1 })
   pair_at = record {
-    operator = record { kind = byte 1; field = 0; value = 0; size = 2 };
-    test = record { kind = get_or s (at + 2 + 1) 0; field = f; value = byte 2 / 32; size = 6 + byte 2 / 32 };
+    operator = record { kind = operator_is.0; field = 0; value = 0; size = 2 };
+    test = record { kind = kind.Test; field = f; value = byte 2 / 32; size = 6 + byte 2 / 32 };
     first = operator_there;
     second =
-        subst (λ (l : List ℕ). CoreRecordFound l (record_read.Found (record { kind = get_or s (at + 2 + 1) 0; field = f; value = byte 2 / 32; size = 6 + byte 2 / 32 })))
+        subst (λ (l : List ℕ). CoreRecordFound l (Ok (record { kind = kind.Test; field = f; value = byte 2 / 32; size = 6 + byte 2 / 32 })))
         (sym (drop-drop 2 at s)) test_there;
-    low = operator_low;
-    high = leb-true (byte 1) 11 (and_left (leb (byte 1) 11) (eqb (byte 3) 6 && ltb f 4294967295) limits);
-    kind =
-        sym (further 2 1 3 refl)
-        ∙ eqb-true (byte 3) 6 (and_left (eqb (byte 3) 6) (ltb f 4294967295) (and_right (leb (byte 1) 11) (eqb (byte 3) 6 && ltb f 4294967295) limits));
+    low = omega (arith, operator_low, operator_is.1);
+    high = omega (arith, operator_is.1, leb-true (byte 1) 11 (and_left (leb (byte 1) 11) (eqb (byte 3) 6 && ltb f 4294967295) limits));
+    kind = refl;
     below = omega (arith, field_below);
     size = omega arith;
     need = refl;
   }
+
+-- the nine bytes, as they were taken from the slice
+pub pair_taken : (s : List ℕ) (at : ℕ) (nine : List ℕ) → IsFirstChunk (take (length s - at) (drop at s)) nine 9 → Sliced s → {f : ℕ}
+    → f ≡ get_or nine 4 0 + 256 * (get_or nine 5 0 + 256 * (get_or nine 6 0 + 256 * get_or nine 7 0))
+    → pair_bytes (get_or nine 0 0) (get_or nine 1 0) (get_or nine 2 0) (get_or nine 3 0) f (get_or nine 8 0) ≡ true
+    → PairIs (drop at s) (record { size = 8 + get_or nine 2 0 / 32; need = f + 1 })
+pair_taken s at nine k each {f} is e =
+    subst (λ n. PairIs (drop at s) (record { size = 8 + n / 32; need = f + 1 })) (sym (byte_is 2 (omega arith)))
+    (pair_at s at (omega (arith, k.enough, ap length rest, length-drop at s)) each
+    (is ∙ λ i. byte_is 4 (omega arith) i + 256 * (byte_is 5 (omega arith) i + 256 * (byte_is 6 (omega arith) i + 256 * byte_is 7 (omega arith) i)))
+    ((λ i. pair_bytes (first_is i) (sym (byte_is 1 (omega arith)) i) (sym (byte_is 2 (omega arith)) i) (sym (byte_is 3 (omega arith)) i) f (sym (byte_is 8 (omega arith)) i)) ∙ e))
+  where
+    rest : take (length s - at) (drop at s) ≡ drop at s
+    rest = take_all (length s - at) (drop at s) (omega (arith, length-drop at s))
+
+    byte_is : (n : ℕ) → n < 9 → get_or nine n 0 ≡ get_or s (at + n) 0
+    byte_is n h = ap (λ (l : List ℕ). get_or l n 0) (k.same ∙ ap (take 9) rest) ∙ get_or-take 9 (drop at s) n 0 h ∙ get_or-drop at s n 0
+
+    first_is : get_or s at 0 ≡ get_or nine 0 0
+    first_is = let none : at ≡ at + 0 = omega arith in ap (λ n. get_or s n 0) none ∙ sym (byte_is 0 (omega arith))
 
 -- ## The loop of skim
 
@@ -458,61 +510,38 @@ skims_then : {s : List ℕ} {at place skip : ℕ} {x : Answer ℕ} {at' place' s
 skims_then h none_read = h
 skims_then h (one_more k d some low f test) = one_more (skims_then h k) d some low f test
 
-pub record Skimming (s : List ℕ) (from index cores : ℕ) (x₀ : Answer ℕ) (at place skip : ℕ) (x : Answer ℕ) : Type 0 where
-  pub low : place ≤ max_core
-  pub inside : at ≤ length s
-  pub reads : Skims s from index cores x₀ at place skip x
+-- from one cursor to the next, over the same bytes
+between_then : (a b c : Cursor) {k l m : ℕ} → b.bytes.now ≡ a.bytes.now → Between a k b l → Between b l c m → Between a k c m
+between_then a b c {k} {l} {m} same v w =
+    skims_then v (subst (λ (s : List ℕ). Skims s b.at b.place l (answered b.fields) c.at c.place m (answered c.fields)) same w)
 
-pub skim_start : (s : List ℕ) (from index cores : ℕ) (x : Answer ℕ) → from ≤ length s → index ≤ max_core → Skimming s from index cores x from index cores x
-skim_start s from index cores x l m = record { low = m; inside = l; reads = none_read }
+-- the loop of skim
+pub record Skimming (from : Cursor) (cores : ℕ) (c : Cursor) (skip : ℕ) : Type 0 where
+  pub same : c.bytes.now ≡ from.bytes.now
+  pub reads : Between from cores c skip
 
--- a record of a test that was read
-record SkimRead (s : List ℕ) (d : CoreRecord) : Type 0 where
-  found : CoreRecordFound s (record_read.Found d)
-  test : test_kind d.kind ≡ true
+pub skim_pairs : {from : Cursor} {cores : ℕ} {c : Cursor} {skip : ℕ} → Skimming from cores c skip → 0 < skip → (r : Cursor) → PairsRead c r → Skimming from cores r skip
+skim_pairs {from} {cores} {c} {skip} k some r p = record {
+  same = p.same ∙ k.same;
+  reads = between_then from c r k.same k.reads (p.skims skip (omega (arith, some)));
+}
 
-skim_read : {s : List ℕ} {d : CoreRecord} {b : Bool} → ShortFound s d → b ≡ (leb 1 d.size && (leb 6 d.kind && leb d.kind 11)) → b ≡ true → SkimRead s d
-skim_read {s} {d} f e h =
-    let all = sym e ∙ h in
-    record {
-      found = f (leb-true 1 d.size (and_left (leb 1 d.size) _ all));
-      test = or_right (leb d.kind 1) (leb 6 d.kind && leb d.kind 11) (and_right (leb 1 d.size) _ all);
-    }
-
--- behind pairs, up to the record that is next
-module _ {s : List ℕ} {from index cores : ℕ} {x₀ : Answer ℕ} {at place skip : ℕ} {x : Answer ℕ} (k : Skimming s from index cores x₀ at place skip x) (r : Skimmed) (w : SkimsTo s at place skip x r) (end : (r.at ≤ length s) × (r.skip ≡ skip)) where
-  pub skim_pairs : Skimming s from index cores x₀ r.at r.place skip (fields_answer r.fields)
-  skim_pairs = record {
-    low = (skims_bounded k.low w).low;
-    inside = end.0;
-    reads = subst (λ n. Skims s from index cores x₀ r.at r.place n (fields_answer r.fields)) end.1 (skims_then k.reads w);
-  }
-
-  pub skim_stop : SkimsTo s from index cores x₀ r
-  skim_stop = skims_then k.reads w
-
-module _ {s : List ℕ} {from index cores : ℕ} {x₀ : Answer ℕ} {at place skip : ℕ} {x : Answer ℕ} (k : Skimming s from index cores x₀ at place skip x) {d : CoreRecord} {b : Bool} (f : ShortFound (drop at s) d) (e : b ≡ (leb 1 d.size && (leb 6 d.kind && leb d.kind 11))) (go : (leb max_core place || not b) ≡ false) where
+-- up to the record that is next
+module _ (c : Cursor) (d : CoreRecord) {b : Bool} (found : CoreRecordFound (drop c.at c.bytes.now) (Ok d)) (e : b ≡ (leb 6 (kind_number d.kind) && leb (kind_number d.kind) 11)) (go : (leb max_core c.place || not b) ≡ false) where
   neither : (y z : Bool) → (y || not z) ≡ false → (y ≡ false) × (z ≡ true)
   neither true z q = absurd (false≢true (sym q))
   neither false true q = (refl, refl)
   neither false false q = absurd (false≢true (sym q))
 
-  read : SkimRead (drop at s) d
-  read = skim_read f e (neither (leb max_core place) b go).1
+  test : test_kind (kind_number d.kind) ≡ true
+  test = or_right (leb (kind_number d.kind) 1) (leb 6 (kind_number d.kind) && leb (kind_number d.kind) 11) (sym e ∙ (neither (leb max_core c.place) b go).1)
 
-  pub skim_below : place < max_core
-  skim_below = leb-false max_core place (neither (leb max_core place) b go).0
+  pub skim_below : c.place < max_core
+  skim_below = leb-false max_core c.place (neither (leb max_core c.place) b go).0
 
-  pub skim_inside : at + d.size ≤ length s
-  skim_inside = omega (arith, read.found.inside.1, length-drop at s, k.inside)
-
-  pub skim_next : 0 < skip → {n : ℕ} {y : Answer ℕ} → n ≡ arity_of d.kind → y ≡ widened x d.kind d.field place
-      → Skimming s from index cores x₀ (at + d.size) (place + 1) (skip - 1 + n) y
-  skim_next some {n} {y} a w = record {
-    low = omega (arith, skim_below);
-    inside = skim_inside;
-    reads =
-        subst (λ (z : Answer ℕ). Skims s from index cores x₀ (at + d.size) (place + 1) (skip - 1 + n) z) (sym w)
-        (subst (λ m. Skims s from index cores x₀ (at + d.size) (place + 1) (skip - 1 + m) (widened x d.kind d.field place)) (sym a)
-        (one_more k.reads d some skim_below read.found read.test));
-  }
+  pub skim_next : {from : Cursor} {cores skip : ℕ} → Skimming from cores c skip → 0 < skip → {n : ℕ} → n ≡ arity_of (kind_number d.kind) → (r : Cursor) → Behind c d r → Skimming from cores r (skip - 1 + n)
+  skim_next {from} {cores} {skip} k some {n} a r w =
+      let more : skip - 1 + arity_of (kind_number d.kind) ≡ skip - 1 + n = omega (arith, a) in record {
+        same = w.same ∙ k.same;
+        reads = skims_same (sym w.at) (sym w.place) more (sym w.fields) (one_more k.reads d some skim_below (subst (λ (l : List ℕ). CoreRecordFound (drop c.at l) (Ok d)) k.same found) test);
+      }

@@ -1,12 +1,16 @@
 -- What running packets through a core answers, by what its parts say.
 use mathlib.Core.Path.{◌≡◌, refl, sym, ap, subst, ◌∙◌}
-use mathlib.Core.Bool.{Bool, true, false, not, cond, ◌&&◌, ◌||◌, false≢true}
+use mathlib.Core.Bool.{Bool, true, false, not, ◌&&◌, ◌||◌, false≢true}
 use mathlib.Core.List.{List, [], ◌∷◌}
-use Prim.Native.Nat.{ℕ, ◌+◌, ◌*◌, ◌≤◌, ◌<◌}
+use Prim.Native.Nat.{ℕ, ◌+◌, ◌*◌, ◌≤◌}
 use native.Mathlib.Omega.{arith}
-use borrow.Author.Tests.{le-leb, lt-leb, lt-ltb, le-ltb, ltb-true, ltb-false, leb-true, not-true, not-false}
+use borrow.Author.Tests.{le-leb, lt-leb, ltb-true, ltb-false, leb-true, not-true, not-false}
 use lib.Dec.{leb, ltb}
 use lib.ListN.{length}
+use Rattle.std.specs.Prelude.{Result, Ok, Err}
+use Rattle.refusals.specs.Refusals.{number_of}
+use Rattle.refusals.specs.declared.Refused.{Refused}
+use Rattle.std.specs.Prelude.{Some, None}
 use Rattle.literals.specs.Bits.{Bytes}
 use Rattle.expr.specs.Answers.{Answer, ok, refuse, and_then, need}
 use Rattle.expr.specs.Terms.{Core, size}
@@ -17,8 +21,6 @@ use Rattle.cores.specs.Results.{counts_of}
 use Rattle.packets.specs.Running.{max_packets, packet_bytes, wide_enough, passing, run_packets}
 use Rattle.packets.specs.Results.{pass_answer, PassOf, Passed, ShortFound}
 use Rattle.packets.specs.declared.Pass.{Pass}
-use Rattle.packets.specs.declared.PassRead.{PassRead}
-use Rattle.packets.specs.declared.PassRead.TheVariants as pass-read
 use Rattle.cores.proofs.CoreForm.{read_as}
 use Rattle.cores.proofs.CorePlaces.{read_placed}
 use Rattle.packets.proofs.PacketLaws.{packets_long}
@@ -33,10 +35,10 @@ module _ (s : List ℕ) (room : ℕ) (slice lengths : List ℕ) where
       ok (passing r.0 (packet_bytes lengths slice))
 
   -- the core was refused
-  pub ran_refused : {ps : List (List ℕ)} {r : PassRead} {n k : ℕ} → Passed s room ps r → r ≡ pass-read.Refused n k → refuse n k ≡ run_packets s room slice lengths
-  ran_refused {n = n} {k = k} p e = go (read_core s room) (sym (ap pass_answer e) ∙ p.answer)
+  pub ran_refused : {ps : List (List ℕ)} (e : Refused) → Passed s room ps (Err e) → refuse (number_of e.refusal) e.place ≡ run_packets s room slice lengths
+  ran_refused e p = go (read_core s room) p.answer
     where
-      go : (x : Answer (Core × ℕ)) → refuse n k ≡ counts_of x → refuse n k ≡ and_then x behind
+      go : (x : Answer (Core × ℕ)) → refuse (number_of e.refusal) e.place ≡ counts_of x → refuse (number_of e.refusal) e.place ≡ and_then x behind
       go (ok q) d = let z : ◌≡◌ {A = ℕ} 0 1 = cc in absurd (omega arith)
       go (refuse m j) d = cc
 
@@ -47,15 +49,15 @@ module _ (s : List ℕ) (room : ℕ) (slice lengths : List ℕ) where
     test : d.test ≡ is_test core
     mask : d.mask ≡ passing core ps
 
-  pub read_of : {ps : List (List ℕ)} {r : PassRead} {d : Pass} → Passed s room ps r → r ≡ pass-read.Found d → Read ps d
-  read_of {ps} {r} {d} p e = go (read_core s room) refl (sym (ap pass_answer e) ∙ p.answer)
+  pub read_of : {ps : List (List ℕ)} (d : Pass) → Passed s room ps (Ok d) → Read ps d
+  read_of {ps} d p = go (read_core s room) refl p.answer
     where
       go : (x : Answer (Core × ℕ)) → read_core s room ≡ x → ok (d.count, d.fields) ≡ counts_of x → Read ps d
       go (refuse m j) h k = let z : ◌≡◌ {A = ℕ} 0 1 = cc in absurd (omega arith)
       go (ok q) h k =
           let pair : ◌≡◌ {A = ℕ × ℕ} (d.count, d.fields) (size q.0, q.1) = cc in
           let fields : d.fields ≡ q.1 = ap (λ y. y.1) pair in
-          let own : PassOf q.0 ps (pass-read.Found d) = subst (PassOf q.0 ps) e (p.core q.0 (read_as s room q h).is) in
+          let own : PassOf q.0 ps (Ok d) = p.core q.0 (read_as s room q h).is in
           record { core = q.0; read = h ∙ ap (λ n. ok (q.0, n)) (sym fields); test = own.0; mask = own.1 }
 
   module _ {ps : List (List ℕ)} {d : Pass} (q : Read ps d) where
@@ -102,15 +104,11 @@ module _ (s : List ℕ) (room : ℕ) (slice lengths : List ℕ) where
         going : run_packets s room slice lengths ≡ left true true
         going = opened true true t (λ i. le-leb 1 (length lengths) some i && le-leb (length lengths) max_packets ran_few i)
 
-        module _ (i : ℕ) (w : ShortFound d.fields (packet_bytes lengths slice) (length lengths) i) where
-          judged : (b : Bool) → ltb i (length lengths) ≡ b → run_packets s room slice lengths ≡ and_then (cond {0} b (refuse 50 i) (ok (tt {0}))) λ _. ok (passing q.core (packet_bytes lengths slice))
-          judged b h = going ∙ ap (λ x. and_then x λ _. ok (passing q.core (packet_bytes lengths slice))) (w ∙ ap (λ x. cond x (refuse 50 i) (ok tt)) h)
+        pub ran_short : {i : ℕ} → ShortFound d.fields (packet_bytes lengths slice) (Some i) → refuse 50 i ≡ run_packets s room slice lengths
+        ran_short w = sym (going ∙ ap (λ x. and_then x λ _. ok (passing q.core (packet_bytes lengths slice))) w)
 
-          pub ran_short : i < length lengths → refuse 50 i ≡ run_packets s room slice lengths
-          ran_short h = sym (judged true (lt-ltb i (length lengths) h))
-
-          pub ran_good : length lengths ≤ i → ps ≡ packet_bytes lengths slice → ok d.mask ≡ run_packets s room slice lengths
-          ran_good h e = ap ok (q.mask ∙ ap (passing q.core) e) ∙ sym (judged false (le-ltb i (length lengths) h))
+        pub ran_good : ShortFound d.fields (packet_bytes lengths slice) None → ps ≡ packet_bytes lengths slice → ok d.mask ≡ run_packets s room slice lengths
+        ran_good w e = ap ok (q.mask ∙ ap (passing q.core) e) ∙ sym (going ∙ ap (λ x. and_then x λ _. ok (passing q.core (packet_bytes lengths slice))) w)
 
 -- ## Places
 

@@ -1,30 +1,53 @@
 // Masks: bit i says something of packet i.
-ghost use Rattle.std.specs.Prelude.{◌≡◌, List, ℕ, ◌+◌, ◌*◌, ◌^◌, ◌≤◌, ◌<◌, min, length};
+ghost use Rattle.expr.specs.Kinds.{kind_number};
+ghost use Rattle.std.specs.Prelude.{◌≡◌, ℕ, ◌+◌, ◌*◌, ◌^◌, ◌≤◌, ◌<◌, List, length};
+ghost use Rattle.std.specs.Prelude.{Some, eqb};
+ghost use Rattle.std.specs.Option.{option_eq};
 ghost use Rattle.literals.specs.Bits.{bit};
 ghost use Rattle.packets.specs.Running.{max_packets, packet_bytes};
 ghost use Rattle.packets.specs.Claims.{total};
-ghost use Rattle.packets.specs.Results.{field_mask, leaf_mask, combined, settles, Captured, MasksOf};
+ghost use Rattle.packets.specs.Results.{field_mask, leaf_mask, combined, settles, Captured, ShortFound};
 
 use cores::records::CoreRecord;
+use expr::kind::Kind;
+use std::marker::Model;
 
-// How many masks of fields are kept, in two numbers each.
-const SLOTS: u32 = 256;
+// How many masks of fields are kept.
+const SLOTS: usize = 256;
 
-// What is asked of the packets again and again: where the last one ends, and the mask of all.
+// The mask of a field that was asked for, if there is one. An Option of both would take half as much of the stack again: 24 bytes in place of 16.
 #[derive(Clone, Copy)]
-pub struct Capture {
-    pub end: usize,
-    pub all: u64,
+pub struct Kept {
+    pub field: Option<u32>,
+    pub mask: u64,
 }
 
-// The smaller of two numbers.
-pub(crate) fn smaller(a: usize, b: usize) -> usize
-    ensures { result ≡ min a b }
-{
-    if a < b {
-        return a;
+impl Kept {
+    // Whether the mask is that of a field.
+    fn is_of(self, field: u32) -> bool
+        ensures { result ≡ option_eq eqb self.field (Some field) }
+    {
+        self.field == Some(field)
     }
-    b
+}
+
+// At most sixty-four packets that lie end to end, with what is asked of them again and again: where the last one ends, the mask of all, and masks of
+// fields. In contracts it is the list of their bytes.
+#[derive(Drop)]
+pub struct Capture<'a> {
+    packets: &'a [u8],
+    lengths: &'a [u32],
+    end: usize,
+    all: u64,
+    kept: [Kept; SLOTS],
+}
+
+impl<'a> Model for Capture<'a> {
+    ghost Value = { List (List ℕ) };
+
+    ghost view = { λ c. packet_bytes c.lengths.now c.packets.now };
+
+    ghost invariant = { λ c. Captured c.packets.now c.lengths.now c.end c.all c.kept };
 }
 
 // One packet more below the others.
@@ -35,74 +58,115 @@ fn with_bit(mask: u64, standing: bool) -> u64
     2 * mask + standing as u64
 }
 
-// The packets in which a field is true, from the last to the first. A packet that the slice cuts has the bytes that are there.
-fn field_mask(packets: &[u8], lengths: &[u32], end: usize, field: usize) -> u64
-    requires { (length lengths.now ≤ max_packets) × (end ≡ total lengths.now) }
-    ensures { result ≡ field_mask field (packet_bytes lengths.now packets.now) }
+// Where packets end that lie end to end.
+fn end_of(lengths: &[u32]) -> usize
+    requires { length lengths.now ≤ max_packets }
+    ensures { result ≡ total lengths.now }
 {
-    let mut i = lengths.len();
-    let mut behind = end;
-    let mut mask = 0;
-    while 0 < i {
-        i -= 1;
-        let start = behind - lengths[i] as usize;
-        let from = smaller(start, packets.len());
-        let to = smaller(behind, packets.len());
-        let standing = literals::bit_at(&packets[from..to], field);
-        mask = with_bit(mask, standing);
-        behind = start;
-    }
-    mask
+    lengths.iter().map(|&n| n as usize).sum()
 }
 
-// The packets in which a field is true: the mask that was made before, if it is still kept. Of fields with the same slot the later one's mask takes the place
-// of the earlier one's.
-fn kept_mask(table: &mut [u64; 512], packets: &[u8], lengths: &[u32], end: usize, field: u32) -> u64
-    requires lengths_len_bound { (length lengths.now ≤ max_packets) × (end ≡ total lengths.now) }
-    requires masks_of { MasksOf (packet_bytes lengths.now packets.now) table.old }
-    ensures value { result ≡ field_mask field (packet_bytes lengths.now packets.now) }
-    ensures masks_of_new { MasksOf (packet_bytes lengths.now packets.now) table.new }
+// A mask with all of n packets.
+fn all_of(n: usize) -> u64
+    requires { n ≤ max_packets }
+    ensures { result + 1 ≡ 2 ^ n }
 {
-    let slot = 2 * (field % SLOTS) as usize;
-    let name = field as u64 + 1;
-    if table[slot] == name {
-        return table[slot + 1];
-    }
-    let mask = field_mask(packets, lengths, end, field as usize);
-    table[slot] = name;
-    table[slot + 1] = mask;
-    mask
+    ((1u128 << n) - 1) as u64
 }
 
-// The packets that pass a record without operands; none passes what is no test.
-pub(crate) fn leaf_mask(
-    table: &mut [u64; 512],
-    packets: &[u8],
-    lengths: &[u32],
-    capture: Capture,
-    r: CoreRecord,
-) -> u64
-    requires captured { Captured packets.now lengths.now capture }
-    requires masks_of { MasksOf (packet_bytes lengths.now packets.now) table.old }
-    ensures value { result ≡ leaf_mask r.kind r.field r.value (packet_bytes lengths.now packets.now) }
-    ensures masks_of_new { MasksOf (packet_bytes lengths.now packets.now) table.new }
-{
-    let kind = r.kind;
-    let value = r.value;
-    if kind == 6 {
-        let mask = kept_mask(table, packets, lengths, capture.end, r.field);
-        if value == 1 {
-            return mask;
+impl<'a> Capture<'a> {
+    pub(crate) fn new(packets: &'a [u8], lengths: &'a [u32]) -> Self
+        requires { length lengths.now ≤ max_packets }
+        ensures { result ≡ packet_bytes lengths.now packets.now }
+    {
+        let end = end_of(lengths);
+        let all = all_of(lengths.len());
+        Capture {
+            packets,
+            lengths,
+            end,
+            all,
+            kept: [Kept {
+                field: None,
+                mask: 0,
+            }; SLOTS],
         }
-        return capture.all ^ mask;
     }
-    if kind == 1 {
-        return capture.all;
+
+    // The packets in which a field is true, from the last to the first. A packet that the slice cuts has the bytes that are there.
+    fn field_mask(&self, field: usize) -> u64
+        ensures { result ≡ field_mask field self.now }
+    {
+        let held = self.packets.len();
+        let mut start = self.end;
+        let mut to = start.min(held);
+        let mut mask = 0;
+        for &length in self.lengths.iter().rev() {
+            start -= length as usize;
+            let from = start.min(held);
+            let standing = literals::bit_at(&self.packets[from..to], field);
+            mask = with_bit(mask, standing);
+            to = from;
+        }
+        mask
     }
-    0
+
+    // The packets in which a field is true: the mask that was made before, if it is still kept. Of fields with the same slot the later one's mask takes
+    // the place of the earlier one's.
+    fn kept_mask(&mut self, field: u32) -> u64
+        ensures value { result ≡ field_mask field self.old }
+        ensures same { self.new ≡ self.old }
+    {
+        let slot = field as usize % SLOTS;
+        if self.kept[slot].is_of(field) {
+            return self.kept[slot].mask;
+        }
+        let mask = self.field_mask(field as usize);
+        self.kept[slot] = Kept {
+            field: Some(field),
+            mask,
+        };
+        mask
+    }
+
+    // The packets that pass a record without operands; none passes what is no test.
+    pub(crate) fn leaf_mask(&mut self, r: CoreRecord) -> u64
+        ensures value { result ≡ leaf_mask (kind_number r.kind) r.field r.value self.old }
+        ensures same { self.new ≡ self.old }
+    {
+        if r.kind == Kind::Test {
+            let mask = self.kept_mask(r.field);
+            if r.value == 1 {
+                return mask;
+            }
+            return self.all ^ mask;
+        }
+        if r.kind == Kind::One {
+            return self.all;
+        }
+        0
+    }
+
+    // The first packet with fewer bits than there are fields.
+    pub(crate) fn first_short(&self, fields: u32) -> Option<usize>
+        ensures { ShortFound fields self.now result }
+    {
+        let bytes = (fields as usize + 7) / 8;
+        let mut start = 0;
+        for (i, &length) in self.lengths.iter().enumerate() {
+            let behind = start + length as usize;
+            let held = self.packets.len();
+            if behind.min(held) - start.min(held) < bytes {
+                return Some(i);
+            }
+            start = behind;
+        }
+        None
+    }
 }
 
-// The packets that pass an operator, by those that pass its operands; none passes what is no test.
+// The packets that pass an operator, by those that pass its operands; none passes what is no test. The kind is the number in the frame, which
+// lies in memory that C lends.
 pub(crate) fn combine(kind: u32, a: u64, b: u64) -> u64
     ensures { result ≡ combined kind a b }
 {
@@ -121,42 +185,4 @@ pub(crate) fn is_settled(kind: u32, mask: u64) -> bool
     ensures { result ≡ settles kind mask }
 {
     (mask == 0) & ((kind == 8) | ((kind == 10) | (kind == 11)))
-}
-
-// Where packets end that lie end to end.
-fn end_of(lengths: &[u32]) -> usize
-    requires { length lengths.now ≤ max_packets }
-    ensures { result ≡ total lengths.now }
-{
-    let mut i = 0;
-    let mut end = 0;
-    while i < lengths.len() {
-        end += lengths[i] as usize;
-        i += 1;
-    }
-    end
-}
-
-// A mask with all of n packets.
-fn all_of(n: usize) -> u64
-    requires { n ≤ max_packets }
-    ensures { result + 1 ≡ 2 ^ n }
-{
-    let mut mask = 0;
-    let mut i = 0;
-    while i < n {
-        mask = 2 * mask + 1;
-        i += 1;
-    }
-    mask
-}
-
-// What is asked of the packets of these lengths again and again.
-pub(crate) fn captured(lengths: &[u32]) -> Capture
-    requires { length lengths.now ≤ max_packets }
-    ensures { (slice : List ℕ) → Captured slice lengths.now result }
-{
-    let end = end_of(lengths);
-    let all = all_of(lengths.len());
-    Capture { end, all }
 }

@@ -3,25 +3,17 @@
 // `long` for a term of more than 8,192 bytes.
 #![tactic(auto)]
 
-use desugar::bytes::Desugared;
 use std::io;
 use std::io::Read;
 
 // The longest term that is read.
 const LONGEST: usize = 8192;
 
-// A word and two numbers, on a line.
-fn print_line(rt: &impl Print, word: &str, first: u64, second: u64) -> io::Result<()> {
-    println!(rt; "{word} {first} {second}")
-}
-
-// The first n bytes in hexadecimal, on a line.
-fn print_bytes(rt: &impl Print, bytes: &[u8], n: usize) -> io::Result<()> {
-    for i in 0..n {
-        if bytes.len() <= i {
-            return Ok(());
-        }
-        let byte = bytes[i];
+// The answer for a core: what was drawn, and the core's bytes in hexadecimal.
+fn print_core(rt: &impl Print, drawn: usize, core: &[u8]) -> io::Result<()> {
+    let length = core.len();
+    println!(rt; "ok {drawn} {length}")?;
+    for byte in core {
         print!(rt; "{byte:02x}")?;
     }
     println!(rt;)
@@ -29,17 +21,15 @@ fn print_bytes(rt: &impl Print, bytes: &[u8], n: usize) -> io::Result<()> {
 
 fn main(rt: HostRuntime) -> io::Result<()> {
     let mut term = Vec::new(rt.alloc());
-    let n = rt.stdin().take(8193).read_to_end(&mut term)?;
-    if LONGEST < n {
+    rt.stdin().take(LONGEST as u64 + 1).read_to_end(&mut term)?;
+    if LONGEST < term.len() {
         return println!(rt; "long");
     }
+    // Under this allowance Desugar asks for 8,192 numbers, and eight for each unit. Arrays, since both sizes are constants.
     let mut work = [0; 16192];
     let mut out = [0; 7000];
     match desugar::bytes::desugar(&term, 1000, &mut work, &mut out) {
-        Desugared::Refused(number, at) => print_line(&rt, "no", number as u64, at as u64),
-        Desugared::Done(length, drawn) => {
-            print_line(&rt, "ok", drawn as u64, length as u64)?;
-            print_bytes(&rt, &out, length)
-        }
+        Err(refused) => println!(rt; "no {} {}", refused.refusal.number(), refused.place),
+        Ok(core) => print_core(&rt, core.drawn, &out[..core.length]),
     }
 }

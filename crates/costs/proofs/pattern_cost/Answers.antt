@@ -5,6 +5,6 @@ use Rattle.costs.proofs.pattern_cost.Goals as goal
 pub match_cost-requires : goal.match_cost-requires
 match_cost-requires c =
     let a = c.args in (
-      literal_whole a.a.now a.a_bits c.if-first-ne0.false c.lent_refusal-first.ensures,
-      literal_whole a.b.now c.second_bits-bits.result c.if-second-ne0.false c.lent_refusal-second.ensures,
+      literal_whole a.a.now a.a_bits c.in_ok-first.first c.in_ok-first.ensures,
+      literal_whole a.b.now c.second_bits.result c.in_ok-second.second c.in_ok-second.ensures,
     )

@@ -1,143 +1,121 @@
-// What is written for one record of a core, and the modes of its operands: 0 negate, 1 keep, 2 desugar again, 3 skip.
-ghost use Rattle.std.specs.Prelude.{◌≡◌, ◌+◌, ◌-◌, ◌≤◌, ◌<◌, length, get_or, set};
+// What is written for one record of a core, and the modes of its operands.
+ghost use Rattle.std.specs.Prelude.{◌≡◌, ◌+◌, ◌*◌, ◌-◌, ◌≤◌, ◌<◌, length, get_or, set};
 ghost use Rattle.std.proofs.lemmas.List.Edits.{sets};
-ghost use Rattle.desugar.specs.NegationRun.{TwoNotes, drop_at, count_of, new_kind, new_value, own_words, left_code, right_code};
+ghost use Rattle.desugar.specs.NegationRun.{TwoNotes, code, side_code, written_size, drop_at, count_of, new_kind, new_value, own_words, left_code, right_code};
 
+use super::modes::{Mode, Side, Written};
+use super::notes::Note;
 use crate::memory::write_record;
 
-// Which operand of a Sequence is dropped where it is desugared again: 1 the left, 2 the right, 0 none.
-pub(crate) fn dropped(work: &[u32], note: usize, mode: u32, kind: u32) -> u32
+// Which operand of a Sequence is dropped where it is desugared again.
+pub(crate) fn dropped(work: &[u32], note: usize, mode: Mode, kind: u32) -> Option<Side>
     requires { kind ≡ 11 → TwoNotes work.now note }
-    ensures { result ≡ drop_at work.now note mode kind }
+    ensures { side_code result ≡ drop_at work.now note (code mode) kind }
 {
-    if mode != 2 {
-        return 0;
+    if mode != Mode::Again || kind != 11 {
+        return None;
     }
-    if kind != 11 {
-        return 0;
+    let left = Note::from(work[note + 1]);
+    let right = super::measured::right_note(work, note, left);
+    match (left.one, right.one) {
+        (true, _) => Some(Side::Left),
+        (false, true) => Some(Side::Right),
+        (false, false) => None,
     }
-    let right = super::measured::right_note(work, note);
-    if work[note + 1] % 2 == 1 {
-        return 1;
-    }
-    if right % 2 == 1 {
-        return 2;
-    }
-    0
 }
 
-// How many records are written.
-pub(crate) fn count(mode: u32, kind: u32, drop: u32) -> usize
-    ensures { result ≡ count_of mode kind drop }
+// What is written for a record of this kind.
+pub(crate) fn written(mode: Mode, kind: u32, drop: Option<Side>) -> Written
+    ensures { written_size result ≡ count_of (code mode) kind (side_code drop) }
 {
-    if mode == 3 {
-        return 0;
+    match (mode, kind, drop) {
+        (Mode::Skip, _, _) => Written::Nothing,
+        (Mode::Negate, 9, _) => Written::FromOne,
+        (Mode::Negate, _, _) => Written::Record,
+        (_, _, None) => Written::Record,
+        (_, _, Some(_)) => Written::Nothing,
     }
-    if mode == 0 {
-        if kind == 9 {
-            return 3;
-        }
-        return 1;
-    }
-    if drop == 0 {
-        return 1;
-    }
-    0
 }
 
 // The kind of the record that is written for a record of this kind.
-pub(crate) fn new_kind(mode: u32, kind: u32) -> u32
-    ensures { result ≡ new_kind mode kind }
+pub(crate) fn new_kind(mode: Mode, kind: u32) -> u32
+    ensures { result ≡ new_kind (code mode) kind }
 {
-    if mode != 0 {
-        return kind;
-    }
-    match kind {
-        0 => 1,
-        1 => 0,
-        6 => 6,
-        7 => 8,
-        _ => 7,
+    match (mode, kind) {
+        (Mode::Negate, 0) => 1,
+        (Mode::Negate, 1) => 0,
+        (Mode::Negate, 6) => 6,
+        (Mode::Negate, 7) => 8,
+        (Mode::Negate, _) => 7,
+        _ => kind,
     }
 }
 
-pub(crate) fn new_value(mode: u32, kind: u32, value: u32) -> u32
+pub(crate) fn new_value(mode: Mode, kind: u32, value: u32) -> u32
     requires { value ≤ 1 }
-    ensures { result ≡ new_value mode kind value }
+    ensures { result ≡ new_value (code mode) kind value }
 {
-    if mode != 0 {
-        return value;
+    match (mode, kind) {
+        (Mode::Negate, 6) => 1 - value,
+        _ => value,
     }
-    if kind != 6 {
-        return value;
-    }
-    1 - value
 }
 
-// Writes the `count` records that the record at `here` asks for.
-pub(crate) fn emit(work: &mut [u32], here: usize, mode: u32, count: usize, to: usize)
-    requires { (here + 3 ≤ length work.old) × (get_or work.old (here + 2) 0 ≤ 1) × (to + (count + count + count) ≤ length work.old) × (count ≤ 3) }
-    ensures { work.new ≡ sets work.old to (own_words count mode (get_or work.old here 0) (get_or work.old (here + 1) 0) (get_or work.old (here + 2) 0)) }
+// Writes to `to` what the record at `here` asks for.
+pub(crate) fn emit(work: &mut [u32], here: usize, mode: Mode, written: Written, to: usize)
+    requires { (here + 3 ≤ length work.old) × (get_or work.old (here + 2) 0 ≤ 1) × (to + 3 * written_size written ≤ length work.old) }
+    ensures { work.new ≡ sets work.old to (own_words (written_size written) (code mode) (get_or work.old here 0) (get_or work.old (here + 1) 0) (get_or work.old (here + 2) 0)) }
 {
-    if count == 0 {
-        return;
-    }
     let kind = work[here];
     let field = work[here + 1];
     let value = work[here + 2];
-    if count == 3 {
-        write_record(work, to, 10, 0, 0);
-        write_record(work, to + 3, 1, 0, 0);
-        write_record(work, to + 6, kind, field, value);
-        return;
+    match written {
+        Written::Nothing => {}
+        Written::Record => {
+            write_record(
+                work,
+                to,
+                new_kind(mode, kind),
+                field,
+                new_value(mode, kind, value),
+            );
+        }
+        Written::FromOne => {
+            write_record(work, to, 10, 0, 0);
+            write_record(work, to + 3, 1, 0, 0);
+            write_record(work, to + 6, kind, field, value);
+        }
     }
-    write_record(
-        work,
-        to,
-        new_kind(mode, kind),
-        field,
-        new_value(mode, kind, value),
-    );
 }
 
-fn left_mode(mode: u32, kind: u32, drop: u32) -> u32
-    ensures { result ≡ left_code mode kind drop }
+fn left_mode(mode: Mode, kind: u32, drop: Option<Side>) -> Mode
+    ensures { code result ≡ left_code (code mode) kind (side_code drop) }
 {
-    if mode == 0 {
-        if kind == 9 {
-            return 1;
-        }
-        return 0;
+    match (mode, kind, drop) {
+        (Mode::Negate, 9, _) => Mode::Keep,
+        (Mode::Negate, _, _) => Mode::Negate,
+        (_, _, Some(Side::Left)) => Mode::Skip,
+        _ => mode,
     }
-    if drop == 1 {
-        return 3;
-    }
-    mode
 }
 
-fn right_mode(mode: u32, kind: u32, drop: u32) -> u32
-    ensures { result ≡ right_code mode kind drop }
+fn right_mode(mode: Mode, kind: u32, drop: Option<Side>) -> Mode
+    ensures { code result ≡ right_code (code mode) kind (side_code drop) }
 {
-    if mode == 0 {
-        if kind == 9 {
-            return 1;
-        }
-        if kind == 10 {
-            return 2;
-        }
-        return 0;
+    match (mode, kind, drop) {
+        (Mode::Negate, 9, _) => Mode::Keep,
+        (Mode::Negate, 10, _) => Mode::Again,
+        (Mode::Negate, _, _) => Mode::Negate,
+        (_, _, Some(Side::Right)) => Mode::Skip,
+        _ => mode,
     }
-    if drop == 2 {
-        return 3;
-    }
-    mode
 }
 
 // The operands' modes take the place of the top of the stack.
-pub(crate) fn push(work: &mut [u32], top: usize, mode: u32, kind: u32, drop: u32)
+pub(crate) fn push(work: &mut [u32], top: usize, mode: Mode, kind: u32, drop: Option<Side>)
     requires { (0 < top) × (top < length work.old) }
-    ensures { work.new ≡ set (set work.old (top - 1) (left_code mode kind drop)) top (right_code mode kind drop) }
+    ensures { work.new ≡ set (set work.old (top - 1) (left_code (code mode) kind (side_code drop))) top (right_code (code mode) kind (side_code drop)) }
 {
-    work[top - 1] = left_mode(mode, kind, drop);
-    work[top] = right_mode(mode, kind, drop);
+    work[top - 1] = left_mode(mode, kind, drop) as u32;
+    work[top] = right_mode(mode, kind, drop) as u32;
 }

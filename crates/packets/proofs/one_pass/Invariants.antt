@@ -1,17 +1,17 @@
 -- `packets::one_pass` meets its contract.
+use mathlib.Core.Path.{◌≡◌}
 use Prim.Native.Nat.{◌-◌}
 use lib.ListN.{length}
-use Rattle.expr.specs.Results.{fields_answer}
 use Rattle.cores.specs.Reading.{max_core}
-use Rattle.packets.specs.Running.{packet_bytes}
-use Rattle.packets.specs.Results.{MasksOf}
-use Rattle.packets.proofs.PassLaws.{Passing}
+use Rattle.packets.proofs.PassLaws.{PassingAt}
 use Rattle.packets.proofs.one_pass.Given as goal
 
-abbrev pub invariant-loop-due : goal.invariant-loop-due
-invariant-loop-due l =
-    Passing l.s (packet_bytes l.lengths l.packets) (length l.initial.list) l.list l.at l.due l.place (fields_answer l.fields) l.test l.run × MasksOf (packet_bytes l.lengths l.packets) l.table
+abbrev pub invariant-loop-spot : goal.invariant-loop-spot
+invariant-loop-spot l = record {
+  bytes : l.spot.cursor.bytes.now ≡ l.s;
+  passing : PassingAt l.s l.fn.capture (length l.fn.list) l.frames l.spot l.test;
+  same : l.capture ≡ l.fn.capture;
+}
 
-abbrev pub decreases-loop-due : goal.decreases-loop-due
-decreases-loop-due l =
-    max_core - l.place
+abbrev pub decreases-loop-spot : goal.decreases-loop-spot
+decreases-loop-spot l = max_core - l.spot.cursor.place

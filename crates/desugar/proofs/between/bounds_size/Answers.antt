@@ -1,39 +1,22 @@
 -- `desugar::between::bounds_size` meets its contract: one `returns` for each case of `between_case_size` with bounds that differ.
-use mathlib.Core.Path.{◌∙◌, sym}
-use mathlib.Core.Bool.{false, true}
+use mathlib.Core.Path.{◌∙◌}
 use Prim.Native.Nat.{◌+◌}
-use native.Mathlib.Omega.{arith}
-use Rattle.desugar.specs.Costs.{between_case_size}
-use Rattle.desugar.proofs.StandingBits.{differences_most, highest_is, highest_not, zero_is, zero_not}
+use borrow.Author.Tests.{eq-eqb, ne_eqb}
+use Rattle.desugar.proofs.StandingBits.{size_by_counts}
 use Rattle.desugar.proofs.between.bounds_size.Goals as goal
 
-pub returns-then-upper-w : goal.returns-then-upper-w
-returns-then-upper-w c = λ a b l s m t i.
-    between_case_size false (zero_is a (sym s.count ∙ c.if-lower-eq0.true) i) (highest_is b (sym t.count ∙ c.if-upper-w.true ∙ sym m) i) a b
+pub returns-in-true-true : goal.returns-in-true-true
+returns-in-true-true c = λ a b l s m t. size_by_counts a b c.args.width s m t (eq-eqb _ _ c.in-true-true.is-0) (eq-eqb _ _ c.in-true-true.is-1)
 
-pub returns-then-lower-eq0 : goal.returns-then-lower-eq0
-returns-then-lower-eq0 c = λ a b l s m t.
-    c.size_by.ensures b m t
-    ∙ λ i. between_case_size false (zero_is a (sym s.count ∙ c.if-lower-eq0.true) i) (highest_not b (λ e. c.if-upper-w.false (t.count ∙ e ∙ m)) i) a b
+pub returns-in-true-false : goal.returns-in-true-false
+returns-in-true-false c = λ a b l s m t.
+    c.bound_size.ensures b m t ∙ size_by_counts a b c.args.width s m t (eq-eqb _ _ c.in-true-false.is-0) (ne_eqb _ _ c.in-true-false.is-1)
 
-pub returns-then-upper-w-2 : goal.returns-then-upper-w-2
-returns-then-upper-w-2 c = λ a b l s m t.
-    c.size_by-size.ensures a l s
-    ∙ λ i. between_case_size false (zero_not a (λ e. c.if-lower-eq0.false (s.count ∙ e)) i) (highest_is b (sym t.count ∙ c.if-upper-w-2.true ∙ sym m) i) a b
+pub returns-in-false-true : goal.returns-in-false-true
+returns-in-false-true c = λ a b l s m t.
+    c.bound_size-in-false-true.ensures a l s ∙ size_by_counts a b c.args.width s m t (ne_eqb _ _ c.in-false-true.is-0) (eq-eqb _ _ c.in-false-true.is-1)
 
-pub overflow_add-result : goal.overflow_add-result
-overflow_add-result c =
-    let p = c.requires in
-    omega (arith, c.size_by-size.ensures p.0.0 p.0.1 p.0.2, p.0.1, p.3, differences_most false p.0.0 (omega (arith, p.0.1, p.3)))
-
-pub overflow_add-result-2 : goal.overflow_add-result-2
-overflow_add-result-2 c =
-    let p = c.requires in
-    let lower = differences_most false p.0.0 (omega (arith, p.0.1, p.3)) in
-    let upper = differences_most true p.1.0 (omega (arith, p.1.1, p.3)) in
-    omega (arith, c.size_by-size.ensures p.0.0 p.0.1 p.0.2, c.size_by-2.ensures p.1.0 p.1.1 p.1.2, p.0.1, p.1.1, p.3)
-
-pub returns : goal.returns
-returns c = λ a b l s m t.
-    (λ i. 1 + c.size_by-size.ensures a l s i + c.size_by-2.ensures b m t i)
-    ∙ λ i. between_case_size false (zero_not a (λ e. c.if-lower-eq0.false (s.count ∙ e)) i) (highest_not b (λ e. c.if-upper-w-2.false (t.count ∙ e ∙ m)) i) a b
+pub returns-in-false-false : goal.returns-in-false-false
+returns-in-false-false c = λ a b l s m t.
+    (λ i. 1 + c.bound_size-in-false-false.ensures a l s i + c.bound_size-in-false-false-2.ensures b m t i)
+    ∙ size_by_counts a b c.args.width s m t (ne_eqb _ _ c.in-false-false.is-0) (ne_eqb _ _ c.in-false-false.is-1)

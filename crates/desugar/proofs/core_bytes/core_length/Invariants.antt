@@ -1,12 +1,8 @@
--- `core_bytes::core_length` meets its contract.
+-- `core_bytes::core_length` meets its contract. The loop's invariant: the bytes of the first j records are counted.
 use mathlib.Core.Path.{◌≡◌}
-use Prim.Native.Nat.{◌-◌, ◌≤◌}
 use lib.ListN.{length}
 use Rattle.desugar.specs.CoreBytes.{records_bytes}
 use Rattle.desugar.proofs.core_bytes.core_length.Given as goal
 
 abbrev pub invariant-loop-j : goal.invariant-loop-j
-invariant-loop-j l = (l.j ≤ l.n) × (l.total ≡ length (records_bytes l.work l.at l.j))
-
-abbrev pub decreases-loop-j : goal.decreases-loop-j
-decreases-loop-j l = l.n - l.j
+invariant-loop-j l = l.total ≡ length (records_bytes l.work l.at l.j)

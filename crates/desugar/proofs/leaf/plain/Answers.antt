@@ -10,5 +10,5 @@ use Rattle.desugar.proofs.leaf.plain.Goals as goal
 pub returns : goal.returns
 returns c =
     let a = c.args in
-    λ s ρ. came_stored (leaf (atom_of (record_of s a.head))) a.place a.allowance 1 refl (omega (arith, c.if-allowance-eq0.false)) a.used _ a.top a.work.now _ c.requires.1.room
+    λ s ρ. came_stored (leaf (atom_of (record_of s a.head))) a.spot.place a.spot.allowance 1 refl (omega (arith, c.if-spot-eq0.false)) a.spot.at _ a.spot.top a.work.now _ c.requires.1.room
     (c.write_atom.ensures s)

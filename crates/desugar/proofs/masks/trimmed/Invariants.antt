@@ -1,12 +1,8 @@
--- `desugar::masks::trimmed` meets its contract. The loop's invariant: the bits from `end` on are true.
+-- `desugar::masks::trimmed` meets its contract. The loop's invariant: what lies from i on is true.
 use mathlib.Core.Path.{◌≡◌}
-use lib.ListN.{take}
-use Rattle.literals.specs.Bits.{unpack}
+use Rattle.literals.specs.Results.{literal_bits}
 use Rattle.desugar.specs.LeafWords.{trim}
 use Rattle.desugar.proofs.masks.trimmed.Given as goal
 
-abbrev pub invariant-loop-end : goal.invariant-loop-end
-invariant-loop-end l = trim (take l.bits (unpack l.mask)) l.end ≡ trim (take l.bits (unpack l.mask)) l.width
-
-abbrev pub decreases-loop-end : goal.decreases-loop-end
-decreases-loop-end l = l.end
+abbrev pub invariant-loop-i : goal.invariant-loop-i
+invariant-loop-i l = trim (literal_bits l.mask) l.width ≡ trim (literal_bits l.mask) l.i

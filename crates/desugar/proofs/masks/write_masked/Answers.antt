@@ -1,88 +1,83 @@
--- `desugar::masks::write_masked` meets its contract. The loop's invariant: the tests of the lowest i bits are written, and `to` lies behind them.
-use mathlib.Core.Path.{◌∙◌, ◌≡◌, ap, sym}
+-- `desugar::masks::write_masked` meets its contract.
+use mathlib.Core.Path.{◌∙◌, ◌≡◌, ap, refl, sym}
 use mathlib.Core.Bool.{false}
 use mathlib.Core.List.{[], ◌∷◌}
 use Prim.Native.Nat.{◌+◌, ◌-◌, suc}
 use native.Mathlib.Omega.{arith}
-use borrow.Author.Rules.{rules}
-use lib.ListN.{get_or, take}
+use lib.ListN.{get_or}
 use lib.Seq.{sets}
-use Rattle.literals.specs.Bits.{unpack}
+use Rattle.literals.specs.Bits.{bit}
+use Rattle.literals.specs.Results.{literal_bits}
 use Rattle.expr.specs.Terms.{Intersect, One}
 use Rattle.desugar.specs.LeafWords.{trim}
 use Rattle.desugar.specs.Leaves.{chain}
 use Rattle.desugar.specs.Memory.{words}
-use Rattle.desugar.proofs.Masked.{clear_below, clear_last, clear_next, masked_last, masked_more, masked_none}
+use Rattle.desugar.proofs.Masked.{clear_below, clear_last, clear_none, clear_one, masked_last, masked_link, masked_none, masked_skip}
 use Rattle.desugar.proofs.masks.write_masked.Goals as goal
+use Rattle.desugar.proofs.masks.write_masked.Goals.{then-not-bit, else-not-bit}
 
 pub returns-then-end-eq0 : goal.returns-then-end-eq0
 returns-then-end-eq0 c =
     let a = c.args in
-    let none = masked_none a.start (take a.address_bits (unpack a.address.now)) (take a.mask_bits (unpack a.mask.now)) a.width
-    (sym c.trimmed-end.ensures ∙ c.if-end-eq0.true) in
-    c.write_record.ensures ∙ ap (λ cs. sets a.work.now a.at (words (chain Intersect One cs))) (sym none)
+    let none = masked_none a.start (literal_bits a.address) (literal_bits a.mask) a.width (sym c.trimmed-end.ensures ∙ c.if-end-eq0.true) in
+    c.write_bare.ensures ∙ ap (λ cs. sets a.work.now a.at (words (chain Intersect One cs))) (sym none)
 
-pub write_tested-to-requires : goal.write_tested-to-requires
-write_tested-to-requires c =
+pub loop-i-init : goal.loop-i-init
+loop-i-init c =
     let a = c.args in
-    let m = take a.mask_bits (unpack a.mask.now) in
-    let i = c.loop-i.i in
+    let m = literal_bits a.mask in
     let last = c.trimmed-end.result - 1 in
     let high : trim m a.width ≡ suc last = omega (arith, c.trimmed-end.ensures) in
     let inside = clear_last m a.width last high in
-    let below = clear_below m (i + 1) last (omega arith) in
-    let next = clear_next m i in
-    (omega arith, omega arith)
+    (high, inside.0, omega arith, omega arith, refl, refl)
+
+pub write_link-requires : goal.write_link-requires
+write_link-requires c =
+    let m = literal_bits c.args.mask in
+    let i = c.loop-i.i in
+    omega (arith, clear_one m i (sym c.if-not-bit.ensures), clear_below m (i + 1) (c.trimmed-end.result - 1) (omega arith))
+
+pub overflow_add-to : goal.overflow_add-to
+overflow_add-to c =
+    let m = literal_bits c.args.mask in
+    let i = c.loop-i.i in
+    omega (arith, clear_one m i (sym c.if-not-bit.ensures), clear_below m (i + 1) (c.trimmed-end.result - 1) (omega arith))
 
 pub loop-i-preserved : goal.loop-i-preserved
 loop-i-preserved c =
     let a = c.args in
-    let m = take a.mask_bits (unpack a.mask.now) in
-    let i = c.loop-i.i in
-    let step = c.write_tested-to.ensures in (
-      search rules,
-      omega (arith, step.next, clear_next m i),
-      search rules,
-      masked_more a.start (take a.address_bits (unpack a.address.now)) m i a.work.now a.at c.loop-i.invariant.3 c.loop-i.invariant.1 step,
-    )
-
-pub overflow_cast-last : goal.overflow_cast-last
-overflow_cast-last c =
-    let a = c.args in
-    let m = take a.mask_bits (unpack a.mask.now) in
-    let last = c.trimmed-end.result - 1 in
-    let high : trim m a.width ≡ suc last = omega (arith, c.trimmed-end.ensures) in
-    let inside = clear_last m a.width last high in
-    search rules
-
-pub overflow_add-start : goal.overflow_add-start
-overflow_add-start c =
-    let a = c.args in
-    let m = take a.mask_bits (unpack a.mask.now) in
-    let last = c.trimmed-end.result - 1 in
-    let high : trim m a.width ≡ suc last = omega (arith, c.trimmed-end.ensures) in
-    let inside = clear_last m a.width last high in
-    search rules
-
-pub write_record-requires-2 : goal.write_record-requires-2
-write_record-requires-2 c =
-    let a = c.args in
-    let m = take a.mask_bits (unpack a.mask.now) in
-    let last = c.trimmed-end.result - 1 in
-    let high : trim m a.width ≡ suc last = omega (arith, c.trimmed-end.ensures) in
-    let inside = clear_last m a.width last high in
-    let below = clear_below m c.loop-i.i last (omega arith) in
-    omega arith
+    let address = literal_bits a.address in
+    let m = literal_bits a.mask in
+    let l = c.loop-i in
+    elim c.if-not-bit.branch [
+      | then-not-bit w ↦
+          let clear = sym w.if-not-bit.ensures in (
+            l.invariant.0,
+            l.invariant.1,
+            omega arith,
+            omega (arith, w.to-is, clear_one m l.i clear),
+            omega arith,
+            w.work-is ∙ w.write_link.ensures ∙ masked_link a.start address m l.i a.work.now a.at l.invariant.5 l.invariant.3 clear w.bit-b.ensures,
+          )
+      | else-not-bit w ↦
+          let stands = sym w.if-not-bit.ensures in (
+            l.invariant.0,
+            l.invariant.1,
+            omega arith,
+            omega (arith, w.to-is, clear_none m l.i stands),
+            omega arith,
+            w.work-is ∙ masked_skip a.start address m l.i a.work.now a.at l.invariant.5 l.invariant.3 stands,
+          )
+    ]
 
 pub returns : goal.returns
 returns c =
     let a = c.args in
-    let m = take a.mask_bits (unpack a.mask.now) in
-    let i = c.loop-i.i in
+    let l = c.loop-i in
     let last = c.trimmed-end.result - 1 in
-    let all : last ≡ i = omega arith in
-    let high : trim m a.width ≡ suc i = omega (arith, c.trimmed-end.ensures) in
-    c.write_record-2.ensures
-    ∙ (λ j. sets c.loop-i.work c.loop-i.to (6 ∷ (a.start + all j) ∷ c.value.ensures j ∷ []))
-    ∙ masked_last a.start (take a.address_bits (unpack a.address.now)) m i a.work.now a.at c.loop-i.invariant.3 c.loop-i.invariant.1 a.width high
-    (c.literal_bit-b.ensures ∙ ap (λ k. get_or (take a.address_bits (unpack a.address.now)) k false) all)
+    let all : last ≡ l.i = omega arith in
+    let high : trim (literal_bits a.mask) a.width ≡ suc l.i = omega (arith, c.trimmed-end.ensures) in
+    c.write_bit.ensures
+    ∙ (λ j. sets l.work l.to (6 ∷ (a.start + all j) ∷ bit c.bit-b-2.result ∷ []))
+    ∙ masked_last a.start (literal_bits a.address) (literal_bits a.mask) l.i a.work.now a.at l.invariant.5 l.invariant.3 a.width high
+    (c.bit-b-2.ensures ∙ ap (λ k. get_or (literal_bits a.address) k false) all)

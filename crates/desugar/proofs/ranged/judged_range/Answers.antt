@@ -1,34 +1,30 @@
--- `desugar::ranged::judged_range` meets its contract.
-use mathlib.Core.Path.{◌∙◌, ap, sym}
-use Prim.Native.Nat.{ℕ}
-use Rattle.expr.specs.Records.{Record}
+-- `ranged::judged_range` meets its contract.
+use mathlib.Core.Path.{◌∙◌, sym}
+use Rattle.refusals.proofs.Exits.{err_is}
 use Rattle.expr.specs.Results.{record_of}
-use Rattle.desugar.specs.Rules.{range_rule}
-use Rattle.desugar.specs.BindingWords.{alias_range}
 use Rattle.desugar.specs.WalkWords.{where_of, use_of}
-use Rattle.desugar.proofs.LeafSteps.{literals_whole, record_is, range_unknown, rule_broken, rules_kept}
+use Rattle.desugar.proofs.LeafSteps.{range_unknown, rule_broken, rules_kept}
 use Rattle.desugar.proofs.ranged.judged_range.Goals as goal
 
-pub range_rule-rule-requires : goal.range_rule-rule-requires
-range_rule-rule-requires c = literals_whole c.args.s.now c.args.head c.requires.inside
-
-pub returns-then-rule-ne0 : goal.returns-then-rule-ne0
-returns-then-rule-ne0 c = let a = c.args in
+pub returns-in_default : goal.returns-in_default
+returns-in_default c =
+    let a = c.args in
     let h = record_of a.s.now a.head in
-    let r : ℕ × ℕ = (c.in-Range.start, c.in-Range.end) in
-    λ ρ at b. sym (rule_broken ρ (where_of h) (use_of h) at r c.range_rule-rule.result
-    (sym (c.find_range.ensures a.s.now ρ b) ∙ ap alias_range c.in-Range.is)
-    (c.range_rule-rule.ensures at ∙ ap (λ (q : Record). range_rule (where_of q) (use_of q) r at) (record_is a.s.now a.head)) c.if-rule-ne0.true)
+    λ ρ at b. sym (range_unknown ρ (where_of h) (use_of h) at (sym (c.in_default.ensures a.s.now ρ b)))
 
-pub returns-in-Unbound : goal.returns-in-Unbound
-returns-in-Unbound c = let a = c.args in
+pub returns-in_err-range_rule : goal.returns-in_err-range_rule
+returns-in_err-range_rule c =
+    let a = c.args in
     let h = record_of a.s.now a.head in
-    λ ρ at b. sym (range_unknown ρ (where_of h) (use_of h) at (sym (c.find_range.ensures a.s.now ρ b) ∙ ap alias_range c.in-Unbound.is))
+    let f = c.in-Some.fields in
+    λ ρ at b. rw (err_is _ c.from_residual.ensures.1)
+    (sym (rule_broken ρ (where_of h) (use_of h) at (sym (c.in-Some.ensures a.s.now ρ b))
+    (c.in_err-range_rule.ensures at ∙ c.use_in.ensures.rule (f.start, f.end) at)))
 
-pub returns-else-rule-ne0 : goal.returns-else-rule-ne0
-returns-else-rule-ne0 c = let a = c.args in
+pub returns : goal.returns
+returns c =
+    let a = c.args in
     let h = record_of a.s.now a.head in
-    let r : ℕ × ℕ = (c.in-Range.start, c.in-Range.end) in
-    λ ρ at b. sym (rules_kept ρ (where_of h) (use_of h) at r c.range_rule-rule.result
-    (sym (c.find_range.ensures a.s.now ρ b) ∙ ap alias_range c.in-Range.is)
-    (c.range_rule-rule.ensures at ∙ ap (λ (q : Record). range_rule (where_of q) (use_of q) r at) (record_is a.s.now a.head)) c.if-rule-ne0.false)
+    let f = c.in-Some.fields in
+    λ ρ at b. sym (rules_kept ρ (where_of h) (use_of h) at (sym (c.in-Some.ensures a.s.now ρ b))
+    (c.in_ok-range_rule.ensures at ∙ c.use_in.ensures.rule (f.start, f.end) at))

@@ -1,59 +1,55 @@
 -- `desugar::test_negation::negation` meets its contract.
-use Prim.Native.Nat.{ℕ, ◌*◌}
-use mathlib.Core.Path.{sym, ap, ◌∙◌}
+use mathlib.Core.Path.{sym, subst, ◌∙◌}
 use mathlib.Core.Logic.{inl}
 use native.Mathlib.Omega.{arith}
-use Rattle.desugar.proofs.Regions.{kept_all, kept_then, kept_less}
+use Prim.Native.Nat.{◌≤◌}
+use Rattle.expr.specs.Terms.{Core}
+use Rattle.desugar.specs.Memory.{Lies}
+use Rattle.desugar.specs.NegationRun.{Noted}
+use Rattle.desugar.specs.NegationOutcome.{Negates}
 use Rattle.desugar.proofs.PlainNegation.{plain_large, plain_fits}
 use Rattle.desugar.proofs.Outcomes.{large, fits, size_is, noted_after}
 use Rattle.desugar.proofs.test_negation.negation.Goals as goal
+use Rattle.desugar.proofs.test_negation.negation.Goals.{After-measure, In_ok-size}
 
-pub returns-then-limit-n : goal.returns-then-limit-n
-returns-then-limit-n c = record {
-  kept = kept_all _ _;
-  negates = λ t h. plain_large h (sym (c.is_plain.ensures t h) ∙ c.if-is_plain.true) c.if-limit-n.true;
-}
+pub returns-then-p-clause-negates : goal.returns-then-p-clause-negates
+returns-then-p-clause-negates c = λ t h. plain_large h (sym (c.is_plain.ensures t h) ∙ c.if-is_plain.true) c.if-p.true
 
-pub returns-then-is_plain : goal.returns-then-is_plain
-returns-then-is_plain c =
-    let e = c.negate_plain.ensures in
-    record {
-      kept = e.kept;
-      negates = λ t h. let q = sym (c.is_plain.ensures t h) ∙ c.if-is_plain.true in plain_fits q c.if-limit-n.false (e.negated t h q);
-    }
+pub returns-then-is_plain-clause-negates : goal.returns-then-is_plain-clause-negates
+returns-then-is_plain-clause-negates c = λ t h. let q = sym (c.is_plain.ensures t h) ∙ c.if-is_plain.true in plain_fits q c.if-p.false (c.negate_plain.ensures.negated t h q)
 
--- From here on m is the place after `measure`, and s the start.
-pub negate-negated-requires : goal.negate-negated-requires
-negate-negated-requires c =
-    let noted = noted_after c.requires.layout.0 c.is_test-test.ensures (c.if-not-test.false) c.measure.ensures.kept c.measure.ensures.holds in
-    record {
-      layout = rw c.measure.ensures.kept.long c.requires.layout.0;
-      noted = (c.requires.lies.0, noted c.requires.lies.0 c.requires.lies.1);
-    }
+-- what is measured is noted
+noted : (c : After-measure) (t : Core) → Lies c.args.work.now c.args.p.at c.args.p.n t → Noted c.measure.new.work c.args.p t
+noted c = noted_after c.args.p c.is_test.ensures c.if-not-is_test.false c.measure.ensures.kept c.measure.ensures.holds
+
+pub negate-requires-clause-noted : goal.negate-requires-clause-noted
+negate-requires-clause-noted c = (c.requires.lies.0, noted (goal.at.negate-requires-clause-noted c).After-measure c.requires.lies.0 c.requires.lies.1)
+
+pub returns-in_err-size-clause-negates : goal.returns-in_err-size-clause-negates
+returns-in_err-size-clause-negates c = λ t h.
+    let n = noted (goal.at.returns-in_err-size-clause-negates c).After-measure t h in
+    subst (Negates c.negate.new.work t c.args.to c.args.p.limit) (grind arith) (large n.test (c.negate.ensures.negated t n) (grind arith))
+
+pub returns-clause-negates : goal.returns-clause-negates
+returns-clause-negates c = λ t h.
+    let n = noted (goal.at.returns-clause-negates c).After-measure t h in
+    fits n.test (c.negate.ensures.negated t n) c.in_ok-size.ensures.ok_part c.copy.ensures.copied
+
+-- the size of the negation is within the limit
+size : (c : In_ok-size) → ((t : Core) → Lies c.args.work.now c.args.p.at c.args.p.n t → Noted c.measure.new.work c.args.p t) → c.in_ok-size.size ≤ c.args.p.limit
+size c n = omega (arith, size_is (c.negate.ensures.negated c.requires.lies.0 (n c.requires.lies.0 c.requires.lies.1)) c.in_ok-size.ensures.ok_part)
+
+pub overflow_mul-size : goal.overflow_mul-size
+overflow_mul-size c =
+    let g = goal.at.overflow_mul-size c in
+    omega (arith, size g.In_ok-size (noted g.After-measure), c.args.p.few)
 
 pub copy-requires : goal.copy-requires
 copy-requires c =
-    let noted = noted_after c.requires.layout.0 c.is_test-test.ensures (c.if-not-test.false) c.measure.ensures.kept c.measure.ensures.holds in
-    let size = size_is (c.negate-negated.ensures.negated c.requires.lies.0 (noted c.requires.lies.0 c.requires.lies.1)) c.in-Size.is in
+    let g = goal.at.copy-requires c in
+    let s = size g.In_ok-size (noted g.After-measure) in
     record {
-      source = omega (arith, size, c.requires.layout.0, c.wide-count.ensures, c.measure.ensures.kept.long, c.negate-negated.ensures.kept.long);
-      target = omega (arith, size, c.requires.layout.0, c.requires.layout.1, c.wide-count.ensures, c.measure.ensures.kept.long, c.negate-negated.ensures.kept.long);
-      apart = inl (omega (arith, c.requires.layout.0, c.requires.layout.1));
-    }
-
-pub returns-in-Size : goal.returns-in-Size
-returns-in-Size c =
-    let noted = noted_after c.requires.layout.0 c.is_test-test.ensures (c.if-not-test.false) c.measure.ensures.kept c.measure.ensures.holds in
-    let negate = c.negate-negated.ensures in
-    let down = c.copy.ensures in record {
-      kept = kept_then (kept_less (omega (arith, c.requires.layout.0, c.requires.layout.1)) c.measure.ensures.kept) (kept_then (kept_less (omega (arith, c.requires.layout.0, c.requires.layout.1)) negate.kept) down.kept);
-      negates = λ t h. fits (noted t h).test (negate.negated t (noted t h)) c.in-Size.is (λ ys e. down.copied ys (e ∙ ap (λ (k : ℕ). 3 * k) (sym c.wide-count.ensures)));
-    }
-
-pub returns-in-TooLarge : goal.returns-in-TooLarge
-returns-in-TooLarge c =
-    let noted = noted_after c.requires.layout.0 c.is_test-test.ensures (c.if-not-test.false) c.measure.ensures.kept c.measure.ensures.holds in
-    let negate = c.negate-negated.ensures in record {
-      kept = kept_then (kept_less (omega (arith, c.requires.layout.0, c.requires.layout.1)) c.measure.ensures.kept) (kept_less (omega (arith, c.requires.layout.0, c.requires.layout.1)) negate.kept);
-      negates = λ t h. large (noted t h).test (negate.negated t (noted t h)) c.in-TooLarge.is;
+      source = omega (arith, s, c.requires.room, c.measure.ensures.kept.long, c.negate.ensures.kept.long);
+      target = omega (arith, s, c.requires, c.args.p.modes_at, c.args.p.out_at, c.measure.ensures.kept.long, c.negate.ensures.kept.long);
+      apart = inl (omega (arith, c.requires.apart, c.args.p.modes_at, c.args.p.out_at));
     }

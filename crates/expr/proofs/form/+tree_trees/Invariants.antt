@@ -1,13 +1,10 @@
-use Prim.Native.Nat.{◌+◌, ◌*◌}
+use Prim.Native.Nat.{◌+◌, ◌-◌, ◌*◌}
 use Rattle.expr.proofs.FormSteps.{Due}
 use Rattle.expr.proofs.form.+tree_trees.Given as goal
 
 -- The needs of `trees`.
-abbrev pub invariant-trees-loop-due : goal.invariant-trees-loop-due
-invariant-trees-loop-due l = Due l.left l.count l.place l.at l.due l.next l.used l.s
-
-abbrev pub decreases-trees-loop-due : goal.decreases-trees-loop-due
-decreases-trees-loop-due l = l.due
+abbrev pub invariant-trees-loop : goal.invariant-trees-loop
+invariant-trees-loop l = Due l.left l.count l.place l.at (l.count - l.counter) l.taken.next l.taken.used l.s
 
 -- 2 for each level that is left, and 1 for the trees on it
 abbrev pub decreases-tree : goal.decreases-tree

@@ -1,4 +1,4 @@
--- `expr::all_fragment` meets its contract. The loop's invariant: the term is in the fragment if the terms that are left are.
+-- `operations::all_fragment` meets its contract. The loop's invariant: the term is in the fragment if the terms that are left are.
 use Prim.Native.Nat.{◌-◌}
 use lib.ListN.{length}
 use Rattle.expr.proofs.FragmentScan.{FragmentLeft}

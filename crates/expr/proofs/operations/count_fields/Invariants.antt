@@ -1,4 +1,4 @@
--- `expr::count_fields` meets its contract. The loop's invariant: the term's count is that of the terms that are left, from this place and count on.
+-- `operations::count_fields` meets its contract. The loop's invariant: the term's count is that of the terms that are left, from this place and count on.
 use Prim.Native.Nat.{◌-◌}
 use lib.ListN.{length}
 use Rattle.expr.proofs.FieldScan.{FieldsLeft}

@@ -1,13 +1,10 @@
-use Prim.Native.Nat.{◌+◌, ◌*◌}
+use Prim.Native.Nat.{◌+◌, ◌-◌, ◌*◌}
 use Rattle.expr.proofs.SwapRest.{Due}
 use Rattle.expr.proofs.replace.+walk_walk_all.Given as goal
 
 -- The needs of `walk_all`.
-abbrev pub invariant-walk_all-loop-due : goal.invariant-walk_all-loop-due
-invariant-walk_all-loop-due l = Due l.s l.initial.done l.count l.left l.first l.others l.job l.by l.initial.out l.done l.due l.live l.out
-
-abbrev pub decreases-walk_all-loop-due : goal.decreases-walk_all-loop-due
-decreases-walk_all-loop-due l = l.due
+abbrev pub invariant-walk_all-loop : goal.invariant-walk_all-loop
+invariant-walk_all-loop l = Due l.s l.initial.done l.count l.left l.first l.others l.job l.by l.initial.out l.done (l.count - l.counter) l.live l.out
 
 -- 2 for each level that is left, and 1 for the trees on it
 abbrev pub decreases-walk : goal.decreases-walk

@@ -9,8 +9,7 @@ pub loop-i-preserved : goal.loop-i-preserved
 loop-i-preserved c =
     let a = c.args in
     let l = c.loop-i in (
-      omega arith,
-      simp length-set l.invariant.1,
-      rw (l.invariant.2, add-one l.i) (paste-suc a.out.now a.at a.from.now l.i 0 (omega arith) (omega arith)),
-      l.invariant.3,
+      simp length-set l.invariant.0,
+      rw (l.invariant.1, add-one l.i) (paste-suc a.out.now a.at a.from.now l.i 0 (omega (arith, c.loop-i-test.true)) (omega (arith, l.invariant.2, c.loop-i-test.true))),
+      l.invariant.2,
     )

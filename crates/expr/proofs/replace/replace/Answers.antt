@@ -12,15 +12,15 @@ walk-m-requires c =
 
 pub returns-then-m-gt-MAX_RECORDS : goal.returns-then-m-gt-MAX_RECORDS
 returns-then-m-gt-MAX_RECORDS c =
-    too_many c.args.name (both_known c.requires c.type_inv.term c.type_inv.by) c.walk-b.ensures c.walk-m.ensures c.if-m-gt-MAX_RECORDS.true
+    rw c.at.ensures (too_many c.args.name (both_known c.requires c.type_inv.term c.type_inv.by) c.walk-b.ensures c.walk-m.ensures c.if-m-gt-MAX_RECORDS.true)
 
 pub returns-then-m-gt-MAX_DEPTH : goal.returns-then-m-gt-MAX_DEPTH
 returns-then-m-gt-MAX_DEPTH c =
-    too_deep c.args.name (both_known c.requires c.type_inv.term c.type_inv.by) c.walk-b.ensures c.walk-m.ensures c.if-m-gt-MAX_RECORDS.false c.if-m-gt-MAX_DEPTH.true
+    rw c.at-then-m-gt-MAX_DEPTH.ensures (too_deep c.args.name (both_known c.requires c.type_inv.term c.type_inv.by) c.walk-b.ensures c.walk-m.ensures c.if-m-gt-MAX_RECORDS.false c.if-m-gt-MAX_DEPTH.true)
 
 pub returns-then-out-m : goal.returns-then-out-m
 returns-then-out-m c =
-    no_room c.args.name (both_known c.requires c.type_inv.term c.type_inv.by) c.walk-b.ensures c.walk-m.ensures c.if-m-gt-MAX_RECORDS.false c.if-m-gt-MAX_DEPTH.false c.if-out-m.true
+    rw c.at-then-out-m.ensures (no_room c.args.name (both_known c.requires c.type_inv.term c.type_inv.by) c.walk-b.ensures c.walk-m.ensures c.if-m-gt-MAX_RECORDS.false c.if-m-gt-MAX_DEPTH.false c.if-out-m.true)
 
 pub walk-w-requires : goal.walk-w-requires
 walk-w-requires c =

@@ -1,187 +1,172 @@
+-- The walk of src/check.rt meets its contracts.
 use native.Mathlib.Omega.{arith}
-use mathlib.Core.Path.{◌∙◌}
-use mathlib.Core.Bool.{◌&&◌}
-use Rattle.desugar.proofs.WalkLaws.{then_refused}
-use Rattle.netkat.proofs.CheckLaws.{found, stopped}
-use Rattle.netkat.proofs.CheckSteps.{two_first, two_second, binary_stops, binary_done}
-use mathlib.Core.Logic.{inl, inr}
+use mathlib.Core.Path.{ap, refl, ◌∙◌}
+use mathlib.Core.Bool.{and_assoc, ◌&&◌}
+use borrow.Author.Tests.{not-true, not-false}
+use borrow.Author.Rules.{rules}
+use Rattle.expr.specs.Kinds.{kind_number}
 use Rattle.expr.specs.Results.{record_of}
 use Rattle.expr.proofs.Slices.{part}
-use Rattle.expr.proofs.HeadOf.{not_refused}
-use Rattle.desugar.proofs.WalkLaws.{in_part, text_head}
-use Rattle.desugar.proofs.Dispatch.{none_above, node_at_fact, unary_node, binary_node, leaf_arity}
-use Rattle.netkat.specs.CheckWords.{checked_answer}
-use Rattle.netkat.proofs.CheckDispatch.{some_left, one_asked, two_asked, three_asked, one_done, two_done, three_done, leaf_done}
-use borrow.Author.Tests.{not-true, not-false}
-use Rattle.netkat.proofs.CheckSteps.{three_first, three_second, first_branch_stops, three_third, other_branch_stops, condition_refused, if_done}
-use Rattle.netkat.proofs.CheckSteps.{alias_ready, alias_done}
-use Rattle.netkat.proofs.CheckSteps.{two_first, body_ready, let_stops, let_done}
-use Rattle.netkat.proofs.CheckSteps.{one_first, negation_done, negation_refused}
-use Rattle.netkat.proofs.CheckSteps.{one_first, unary_done}
+use Rattle.desugar.proofs.WalkLaws.{then_refused, text_head, text_read}
+use Rattle.desugar.proofs.Dispatch.{node_at_fact, unary_kind, binary_kind, childless}
+use Rattle.netkat.proofs.CheckLaws.{found, passed_on, stopped}
+use Rattle.netkat.proofs.CheckSteps.{one_first, unary_done, negation_done, negation_refused, alias_ready, alias_told, two_first, two_second, binary_stops, binary_done, body_ready, let_told, three_first, three_second, first_branch_stops, three_third, other_branch_stops, condition_refused, if_done}
+use Rattle.netkat.proofs.CheckDispatch.{some_left, one_asked, two_asked, three_asked, one_done, two_done, three_done, leaf_is, leaf_done}
 use Rattle.netkat.proofs.check.+walk.Goals as goal
-use Rattle.netkat.proofs.check.+walk.Goals.{check_with_env-then-kind-lt7, check_with_env-else-kind-lt7+else-kind-lt13+else-kind-lt16+then-kind-lt27}
 
-pub binary-returns-in-Refused : goal.binary-returns-in-Refused
-binary-returns-in-Refused t c = λ k q. then_refused _ (stopped _ _ (two_first c.args.place q) c.check_with_env.ensures c.in-Refused.is)
+pub binary-returns-in_err-a : goal.binary-returns-in_err-a
+binary-returns-in_err-a t c = λ k q. passed_on _ _ _ _ _ _ c.in_err-a.field-0.0 c.from_residual.ensures.1 (then_refused _ (stopped c.check_with_env.new.work (two_first c.args.spot.place q) c.in_err-a.field-0.0 c.in_err-a.ensures))
 
 pub binary-check_with_env-requires-2 : goal.binary-check_with_env-requires-2
-binary-check_with_env-requires-2 t c = (omega (arith, c.decreases), (two_second c.args.place c.requires.1 (found c.check_with_env.new.work _ (two_first c.args.place c.requires.1) c.check_with_env.ensures c.in-Done.is)))
+binary-check_with_env-requires-2 t c = (omega (arith, c.decreases), two_second c.args.spot.place c.requires.1 (found c.check_with_env.new.work (two_first c.args.spot.place c.requires.1) c.in_ok-a.ensures))
 
-pub binary-returns-in-Refused-check_with_env : goal.binary-returns-in-Refused-check_with_env
-binary-returns-in-Refused-check_with_env t c = λ k q.
-    let one = found c.check_with_env.new.work _ (two_first c.args.place q) c.check_with_env.ensures c.in-Done.is in
-    binary_stops c.args.place q one k.o (stopped _ _ (two_second c.args.place q one) c.check_with_env-2.ensures c.in-Refused-check_with_env.is)
+pub binary-returns-in_err-b : goal.binary-returns-in_err-b
+binary-returns-in_err-b t c = λ k q.
+    let one = found c.check_with_env.new.work (two_first c.args.spot.place q) c.in_ok-a.ensures in
+    passed_on _ _ _ _ _ _ c.in_err-b.field-0.0 c.from_residual-in_err-b.ensures.1 (binary_stops c.args.spot.place q one k.o (stopped c.check_with_env-2.new.work (two_second c.args.spot.place q one) c.in_err-b.field-0.0 c.in_err-b.ensures))
 
 pub binary-returns : goal.binary-returns
 binary-returns t c = λ k q.
-    let one = found c.check_with_env.new.work _ (two_first c.args.place q) c.check_with_env.ensures c.in-Done.is in
-    binary_done c.args.place q one k (c.both-test.ensures ∙ (λ i. c.is_test_kind.ensures i && c.both.ensures i)) (found c.check_with_env-2.new.work _ (two_second c.args.place q one) c.check_with_env-2.ensures c.in-Done-check_with_env.is)
+    let one = found c.check_with_env.new.work (two_first c.args.spot.place q) c.in_ok-a.ensures in
+    binary_done c.args.spot.place q one k (and_assoc c.is_test.result c.in_ok-a.a.test c.in_ok-b.b.test ∙ ap (λ z. z && (c.in_ok-a.a.test && c.in_ok-b.b.test)) c.is_test.ensures) (found c.check_with_env-2.new.work (two_second c.args.spot.place q one) c.in_ok-b.ensures)
 
-pub check_with_env-returns-in-Refused : goal.check_with_env-returns-in-Refused
-check_with_env-returns-in-Refused t c = λ q. let a = c.args in absurd (not_refused q.term q.text.more (in_part a.s.now a.at q.text).bytes q.text.fits c.read_record.ensures c.in-Refused.is)
+pub check_with_env-returns-in_err-head : goal.check_with_env-returns-in_err-head
+check_with_env-returns-in_err-head t c = λ q. absurd (text_read c.args.s.now c.args.spot.at q.text c.in_err-head.ensures.0)
 
-pub check_with_env-overflow_sub-left : goal.check_with_env-overflow_sub-left
-check_with_env-overflow_sub-left t c = some_left c.args.place c.requires (text_head c.args.s.now c.args.at c.requires.text c.read_record.ensures c.in-Found.is)
-
-pub check_with_env-test_negation-requires : goal.check_with_env-test_negation-requires
-check_with_env-test_negation-requires t c =
-    let own = text_head c.args.s.now c.args.at c.requires.text c.read_record.ensures c.in-Found.is in
-    (omega (arith, c.decreases, (some_left c.args.place c.requires own)), one_asked c.args.place c.requires own (node_at_fact (record_of (part c.args.at c.args.s.now) c.in-Found.head) 16 c.in-16.is))
-
-pub check_with_env-overflow_sub-left-in-17 : goal.check_with_env-overflow_sub-left-in-17
-check_with_env-overflow_sub-left-in-17 t c = some_left c.args.place c.requires (text_head c.args.s.now c.args.at c.requires.text c.read_record.ensures c.in-Found.is)
-
-pub check_with_env-if_then_else-requires : goal.check_with_env-if_then_else-requires
-check_with_env-if_then_else-requires t c =
-    let own = text_head c.args.s.now c.args.at c.requires.text c.read_record.ensures c.in-Found.is in
-    (omega (arith, c.decreases, (some_left c.args.place c.requires own)), three_asked c.args.place c.requires own (node_at_fact (record_of (part c.args.at c.args.s.now) c.in-Found.head) 17 c.in-17.is))
-
-pub check_with_env-overflow_sub-left-in-18 : goal.check_with_env-overflow_sub-left-in-18
-check_with_env-overflow_sub-left-in-18 t c = some_left c.args.place c.requires (text_head c.args.s.now c.args.at c.requires.text c.read_record.ensures c.in-Found.is)
-
-pub check_with_env-let_variable-requires : goal.check_with_env-let_variable-requires
-check_with_env-let_variable-requires t c =
-    let own = text_head c.args.s.now c.args.at c.requires.text c.read_record.ensures c.in-Found.is in
-    (omega (arith, c.decreases, (some_left c.args.place c.requires own)), two_asked c.args.place c.requires own (node_at_fact (record_of (part c.args.at c.args.s.now) c.in-Found.head) 18 c.in-18.is))
-
-pub check_with_env-overflow_sub-left-in-19 : goal.check_with_env-overflow_sub-left-in-19
-check_with_env-overflow_sub-left-in-19 t c = some_left c.args.place c.requires (text_head c.args.s.now c.args.at c.requires.text c.read_record.ensures c.in-Found.is)
-
-pub check_with_env-let_bit_range-requires : goal.check_with_env-let_bit_range-requires
-check_with_env-let_bit_range-requires t c =
-    let own = text_head c.args.s.now c.args.at c.requires.text c.read_record.ensures c.in-Found.is in
-    (omega (arith, c.decreases, (some_left c.args.place c.requires own)), one_asked c.args.place c.requires own (node_at_fact (record_of (part c.args.at c.args.s.now) c.in-Found.head) 19 c.in-19.is))
-
-pub check_with_env-overflow_sub-left-in-7-to-12 : goal.check_with_env-overflow_sub-left-in-7-to-12
-check_with_env-overflow_sub-left-in-7-to-12 t c = some_left c.args.place c.requires (text_head c.args.s.now c.args.at c.requires.text c.read_record.ensures c.in-Found.is)
+pub check_with_env-overflow_sub-inner : goal.check_with_env-overflow_sub-inner
+check_with_env-overflow_sub-inner t c = some_left c.args.spot.place c.requires (text_head c.args.s.now c.args.spot.at c.requires.text c.in_ok-head.ensures)
 
 pub check_with_env-binary-requires : goal.check_with_env-binary-requires
 check_with_env-binary-requires t c =
-    let own = text_head c.args.s.now c.args.at c.requires.text c.read_record.ensures c.in-Found.is in
-    let b = binary_node (record_of (part c.args.at c.args.s.now) c.in-Found.head) c.in-7-to-12.if-kind-lt7-own.false (omega (arith, c.in-7-to-12.if-kind-lt13-own.true)) in (omega (arith, c.decreases, (some_left c.args.place c.requires own)), (b.operator, two_asked c.args.place c.requires own b.node))
+    let own = text_head c.args.s.now c.args.spot.at c.requires.text c.in_ok-head.ensures in
+    let b = binary_kind (part c.args.spot.at c.args.s.now) c.in_ok-head.head c.in-Union.is in
+    (omega (arith, c.decreases, some_left c.args.spot.place c.requires own), (b.operator, two_asked c.args.spot.place c.requires own b.node))
 
-pub check_with_env-overflow_sub-left-in-13-to-15 : goal.check_with_env-overflow_sub-left-in-13-to-15
-check_with_env-overflow_sub-left-in-13-to-15 t c = some_left c.args.place c.requires (text_head c.args.s.now c.args.at c.requires.text c.read_record.ensures c.in-Found.is)
+pub check_with_env-returns-in-Union : goal.check_with_env-returns-in-Union
+check_with_env-returns-in-Union t c = λ q. let b = binary_kind (part c.args.spot.at c.args.s.now) c.in_ok-head.head c.in-Union.is in two_done c.args.spot.place q (text_head c.args.s.now c.args.spot.at q.text c.in_ok-head.ensures) c.binary.new.work c.binary.result b.node (c.binary.ensures b.operator)
 
 pub check_with_env-unary-requires : goal.check_with_env-unary-requires
 check_with_env-unary-requires t c =
-    let own = text_head c.args.s.now c.args.at c.requires.text c.read_record.ensures c.in-Found.is in
-    let b = unary_node (record_of (part c.args.at c.args.s.now) c.in-Found.head) c.in-13-to-15.if-kind-lt13-own.false (omega (arith, c.in-13-to-15.if-kind-lt16-own.true)) in (omega (arith, c.decreases, (some_left c.args.place c.requires own)), (b.operator, one_asked c.args.place c.requires own b.node))
+    let own = text_head c.args.s.now c.args.spot.at c.requires.text c.in_ok-head.ensures in
+    let b = unary_kind (part c.args.spot.at c.args.s.now) c.in_ok-head.head c.in-Complement.is in
+    (omega (arith, c.decreases, some_left c.args.spot.place c.requires own), (b.operator, one_asked c.args.spot.place c.requires own b.node))
 
-pub check_with_env-returns-in-16 : goal.check_with_env-returns-in-16
-check_with_env-returns-in-16 t c = λ q. one_done c.args.place q (text_head c.args.s.now c.args.at q.text c.read_record.ensures c.in-Found.is) c.test_negation.new.work c.test_negation.result (node_at_fact (record_of (part c.args.at c.args.s.now) c.in-Found.head) 16 c.in-16.is) c.test_negation.ensures
+pub check_with_env-returns-in-Complement : goal.check_with_env-returns-in-Complement
+check_with_env-returns-in-Complement t c = λ q. let b = unary_kind (part c.args.spot.at c.args.s.now) c.in_ok-head.head c.in-Complement.is in one_done c.args.spot.place q (text_head c.args.s.now c.args.spot.at q.text c.in_ok-head.ensures) c.unary.new.work c.unary.result b.node (c.unary.ensures b.operator)
 
-pub check_with_env-returns-in-17 : goal.check_with_env-returns-in-17
-check_with_env-returns-in-17 t c = λ q. three_done c.args.place q (text_head c.args.s.now c.args.at q.text c.read_record.ensures c.in-Found.is) c.if_then_else.new.work c.if_then_else.result (node_at_fact (record_of (part c.args.at c.args.s.now) c.in-Found.head) 17 c.in-17.is) c.if_then_else.ensures
+pub check_with_env-test_negation-requires : goal.check_with_env-test_negation-requires
+check_with_env-test_negation-requires t c =
+    let own = text_head c.args.s.now c.args.spot.at c.requires.text c.in_ok-head.ensures in
+    (omega (arith, c.decreases, some_left c.args.spot.place c.requires own), one_asked c.args.spot.place c.requires own (node_at_fact (record_of (part c.args.spot.at c.args.s.now) c.in_ok-head.head) 16 (ap kind_number c.in-TestNegation.is)))
 
-pub check_with_env-returns-in-18 : goal.check_with_env-returns-in-18
-check_with_env-returns-in-18 t c = λ q. two_done c.args.place q (text_head c.args.s.now c.args.at q.text c.read_record.ensures c.in-Found.is) c.let_variable.new.work c.let_variable.result (node_at_fact (record_of (part c.args.at c.args.s.now) c.in-Found.head) 18 c.in-18.is) c.let_variable.ensures
+pub check_with_env-returns-in-TestNegation : goal.check_with_env-returns-in-TestNegation
+check_with_env-returns-in-TestNegation t c = λ q. one_done c.args.spot.place q (text_head c.args.s.now c.args.spot.at q.text c.in_ok-head.ensures) c.test_negation.new.work c.test_negation.result (node_at_fact (record_of (part c.args.spot.at c.args.s.now) c.in_ok-head.head) 16 (ap kind_number c.in-TestNegation.is)) c.test_negation.ensures
 
-pub check_with_env-returns-in-19 : goal.check_with_env-returns-in-19
-check_with_env-returns-in-19 t c = λ q. one_done c.args.place q (text_head c.args.s.now c.args.at q.text c.read_record.ensures c.in-Found.is) c.let_bit_range.new.work c.let_bit_range.result (node_at_fact (record_of (part c.args.at c.args.s.now) c.in-Found.head) 19 c.in-19.is) c.let_bit_range.ensures
+pub check_with_env-if_then_else-requires : goal.check_with_env-if_then_else-requires
+check_with_env-if_then_else-requires t c =
+    let own = text_head c.args.s.now c.args.spot.at c.requires.text c.in_ok-head.ensures in
+    (omega (arith, c.decreases, some_left c.args.spot.place c.requires own), three_asked c.args.spot.place c.requires own (node_at_fact (record_of (part c.args.spot.at c.args.s.now) c.in_ok-head.head) 17 (ap kind_number c.in-IfThenElse.is)))
 
-pub check_with_env-returns-in-7-to-12 : goal.check_with_env-returns-in-7-to-12
-check_with_env-returns-in-7-to-12 t c = λ q. let b = binary_node (record_of (part c.args.at c.args.s.now) c.in-Found.head) c.in-7-to-12.if-kind-lt7-own.false (omega (arith, c.in-7-to-12.if-kind-lt13-own.true)) in two_done c.args.place q (text_head c.args.s.now c.args.at q.text c.read_record.ensures c.in-Found.is) c.binary.new.work c.binary.result b.node (c.binary.ensures b.operator)
+pub check_with_env-returns-in-IfThenElse : goal.check_with_env-returns-in-IfThenElse
+check_with_env-returns-in-IfThenElse t c = λ q. three_done c.args.spot.place q (text_head c.args.s.now c.args.spot.at q.text c.in_ok-head.ensures) c.if_then_else.new.work c.if_then_else.result (node_at_fact (record_of (part c.args.spot.at c.args.s.now) c.in_ok-head.head) 17 (ap kind_number c.in-IfThenElse.is)) c.if_then_else.ensures
 
-pub check_with_env-returns-in-13-to-15 : goal.check_with_env-returns-in-13-to-15
-check_with_env-returns-in-13-to-15 t c = λ q. let b = unary_node (record_of (part c.args.at c.args.s.now) c.in-Found.head) c.in-13-to-15.if-kind-lt13-own.false (omega (arith, c.in-13-to-15.if-kind-lt16-own.true)) in one_done c.args.place q (text_head c.args.s.now c.args.at q.text c.read_record.ensures c.in-Found.is) c.unary.new.work c.unary.result b.node (c.unary.ensures b.operator)
+pub check_with_env-let_variable-requires : goal.check_with_env-let_variable-requires
+check_with_env-let_variable-requires t c =
+    let own = text_head c.args.s.now c.args.spot.at c.requires.text c.in_ok-head.ensures in
+    (omega (arith, c.decreases, some_left c.args.spot.place c.requires own), two_asked c.args.spot.place c.requires own (node_at_fact (record_of (part c.args.spot.at c.args.s.now) c.in_ok-head.head) 18 (ap kind_number c.in-Let.is)))
 
-pub check_with_env-returns-in_default : goal.check_with_env-returns-in_default
-check_with_env-returns-in_default t c = λ q. absurd (none_above q.term (in_part c.args.s.now c.args.at q.text) (text_head c.args.s.now c.args.at q.text c.read_record.ensures c.in-Found.is) c.in_default.if-kind-lt27-own.false)
+pub check_with_env-returns-in-Let : goal.check_with_env-returns-in-Let
+check_with_env-returns-in-Let t c = λ q. two_done c.args.spot.place q (text_head c.args.s.now c.args.spot.at q.text c.in_ok-head.ensures) c.let_variable.new.work c.let_variable.result (node_at_fact (record_of (part c.args.spot.at c.args.s.now) c.in_ok-head.head) 18 (ap kind_number c.in-Let.is)) c.let_variable.ensures
 
-pub check_with_env-returns-in-0-to-6 : goal.check_with_env-returns-in-0-to-6
-check_with_env-returns-in-0-to-6 t c = λ q. leaf_done c.args.place q (text_head c.args.s.now c.args.at q.text c.read_record.ensures c.in-Found.is) c.told.result (leaf_arity {k = c.in-Found.head.kind} (elim c.in-0-to-6-1.branch [ check_with_env-then-kind-lt7 w ↦ inl (omega arith) | check_with_env-else-kind-lt7+else-kind-lt13+else-kind-lt16+then-kind-lt27 w ↦ inr (omega arith) ]) (λ e. omega arith) (λ e. omega arith) (λ e. omega arith) (λ e. omega arith)) (checked_answer c.leaf.result) c.leaf.ensures c.told.ensures
+pub check_with_env-let_bit_range-requires : goal.check_with_env-let_bit_range-requires
+check_with_env-let_bit_range-requires t c =
+    let own = text_head c.args.s.now c.args.spot.at c.requires.text c.in_ok-head.ensures in
+    (omega (arith, c.decreases, some_left c.args.spot.place c.requires own), one_asked c.args.spot.place c.requires own (node_at_fact (record_of (part c.args.spot.at c.args.s.now) c.in_ok-head.head) 19 (ap kind_number c.in-LetBitRange.is)))
 
-pub if_then_else-returns-in-Refused : goal.if_then_else-returns-in-Refused
-if_then_else-returns-in-Refused t c = λ q. then_refused _ (stopped _ _ (three_first c.args.place q) c.check_with_env.ensures c.in-Refused.is)
+pub check_with_env-returns-in-LetBitRange : goal.check_with_env-returns-in-LetBitRange
+check_with_env-returns-in-LetBitRange t c = λ q. one_done c.args.spot.place q (text_head c.args.s.now c.args.spot.at q.text c.in_ok-head.ensures) c.let_bit_range.new.work c.let_bit_range.result (node_at_fact (record_of (part c.args.spot.at c.args.s.now) c.in_ok-head.head) 19 (ap kind_number c.in-LetBitRange.is)) c.let_bit_range.ensures
+
+pub if_then_else-returns-in_err-c : goal.if_then_else-returns-in_err-c
+if_then_else-returns-in_err-c t c = λ q. passed_on _ _ _ _ _ _ c.in_err-c.field-0.0 c.from_residual.ensures.1 (then_refused _ (stopped c.check_with_env.new.work (three_first c.args.spot.place q) c.in_err-c.field-0.0 c.in_err-c.ensures))
 
 pub if_then_else-check_with_env-requires-2 : goal.if_then_else-check_with_env-requires-2
-if_then_else-check_with_env-requires-2 t c = (omega (arith, c.decreases), (three_second c.args.place c.requires (found c.check_with_env.new.work _ (three_first c.args.place c.requires) c.check_with_env.ensures c.in-Done.is)))
+if_then_else-check_with_env-requires-2 t c = (omega (arith, c.decreases), three_second c.args.spot.place c.requires (found c.check_with_env.new.work (three_first c.args.spot.place c.requires) c.in_ok-c.ensures))
 
-pub if_then_else-returns-in-Refused-check_with_env : goal.if_then_else-returns-in-Refused-check_with_env
-if_then_else-returns-in-Refused-check_with_env t c = λ q.
-    let one = found c.check_with_env.new.work _ (three_first c.args.place q) c.check_with_env.ensures c.in-Done.is in
-    first_branch_stops c.args.place q one (stopped _ _ (three_second c.args.place q one) c.check_with_env-2.ensures c.in-Refused-check_with_env.is)
+pub if_then_else-returns-in_err-t : goal.if_then_else-returns-in_err-t
+if_then_else-returns-in_err-t t c = λ q.
+    let one = found c.check_with_env.new.work (three_first c.args.spot.place q) c.in_ok-c.ensures in
+    passed_on _ _ _ _ _ _ c.in_err-t.field-0.0 c.from_residual-in_err-t.ensures.1 (first_branch_stops c.args.spot.place q one (stopped c.check_with_env-2.new.work (three_second c.args.spot.place q one) c.in_err-t.field-0.0 c.in_err-t.ensures))
 
 pub if_then_else-check_with_env-requires-3 : goal.if_then_else-check_with_env-requires-3
 if_then_else-check_with_env-requires-3 t c =
-    let one = found c.check_with_env.new.work _ (three_first c.args.place c.requires) c.check_with_env.ensures c.in-Done.is in
-    (omega (arith, c.decreases), (three_third c.args.place c.requires one (found c.check_with_env-2.new.work _ (three_second c.args.place c.requires one) c.check_with_env-2.ensures c.in-Done-check_with_env.is)))
+    let one = found c.check_with_env.new.work (three_first c.args.spot.place c.requires) c.in_ok-c.ensures in
+    (omega (arith, c.decreases), three_third c.args.spot.place c.requires one (found c.check_with_env-2.new.work (three_second c.args.spot.place c.requires one) c.in_ok-t.ensures))
 
-pub if_then_else-returns-in-Refused-check_with_env-2 : goal.if_then_else-returns-in-Refused-check_with_env-2
-if_then_else-returns-in-Refused-check_with_env-2 t c = λ q.
-    let one = found c.check_with_env.new.work _ (three_first c.args.place q) c.check_with_env.ensures c.in-Done.is in
-    let two = found c.check_with_env-2.new.work _ (three_second c.args.place q one) c.check_with_env-2.ensures c.in-Done-check_with_env.is in
-    other_branch_stops c.args.place q one two (stopped _ _ (three_third c.args.place q one two) c.check_with_env-3.ensures c.in-Refused-check_with_env-2.is)
+pub if_then_else-returns-in_err-e : goal.if_then_else-returns-in_err-e
+if_then_else-returns-in_err-e t c = λ q.
+    let one = found c.check_with_env.new.work (three_first c.args.spot.place q) c.in_ok-c.ensures in
+    let two = found c.check_with_env-2.new.work (three_second c.args.spot.place q one) c.in_ok-t.ensures in
+    passed_on _ _ _ _ _ _ c.in_err-e.field-0.0 c.from_residual-in_err-e.ensures.1 (other_branch_stops c.args.spot.place q one two (stopped c.check_with_env-3.new.work (three_third c.args.spot.place q one two) c.in_err-e.field-0.0 c.in_err-e.ensures))
 
 pub if_then_else-returns-then-not-c : goal.if_then_else-returns-then-not-c
 if_then_else-returns-then-not-c t c = λ q.
-    let one = found c.check_with_env.new.work _ (three_first c.args.place q) c.check_with_env.ensures c.in-Done.is in
-    let two = found c.check_with_env-2.new.work _ (three_second c.args.place q one) c.check_with_env-2.ensures c.in-Done-check_with_env.is in
-    condition_refused c.args.place q one two (found c.check_with_env-3.new.work _ (three_third c.args.place q one two) c.check_with_env-3.ensures c.in-Done-check_with_env-2.is) (not-true _ c.if-not-c.true)
+    let one = found c.check_with_env.new.work (three_first c.args.spot.place q) c.in_ok-c.ensures in
+    let two = found c.check_with_env-2.new.work (three_second c.args.spot.place q one) c.in_ok-t.ensures in
+    rw c.at.ensures (condition_refused c.args.spot.place q one two (found c.check_with_env-3.new.work (three_third c.args.spot.place q one two) c.in_ok-e.ensures) (not-true _ c.if-not-c.true))
 
 pub if_then_else-returns : goal.if_then_else-returns
 if_then_else-returns t c = λ q.
-    let one = found c.check_with_env.new.work _ (three_first c.args.place q) c.check_with_env.ensures c.in-Done.is in
-    let two = found c.check_with_env-2.new.work _ (three_second c.args.place q one) c.check_with_env-2.ensures c.in-Done-check_with_env.is in
-    if_done c.args.place q one two (found c.check_with_env-3.new.work _ (three_third c.args.place q one two) c.check_with_env-3.ensures c.in-Done-check_with_env-2.is) (not-false _ c.if-not-c.false) c.both-test.ensures
+    let one = found c.check_with_env.new.work (three_first c.args.spot.place q) c.in_ok-c.ensures in
+    let two = found c.check_with_env-2.new.work (three_second c.args.spot.place q one) c.in_ok-t.ensures in
+    if_done c.args.spot.place q one two (found c.check_with_env-3.new.work (three_third c.args.spot.place q one two) c.in_ok-e.ensures) (not-false _ c.if-not-c.false) refl
 
 pub let_bit_range-check_with_env-requires : goal.let_bit_range-check_with_env-requires
-let_bit_range-check_with_env-requires t c = (omega (arith, c.decreases), (alias_ready c.args.place c.requires c.args.name c.args.start c.args.end c.with_alias-inner.ensures.last_value.0 c.with_alias-inner.ensures.last_value.1 c.with_alias-inner.ensures.bound))
-
-pub let_bit_range-returns-in-Refused : goal.let_bit_range-returns-in-Refused
-let_bit_range-returns-in-Refused t c = λ q. stopped _ _ (alias_ready c.args.place q c.args.name c.args.start c.args.end c.with_alias-inner.ensures.last_value.0 c.with_alias-inner.ensures.last_value.1 c.with_alias-inner.ensures.bound) c.check_with_env.ensures c.in-Refused.is
+let_bit_range-check_with_env-requires t c = (omega (arith, c.decreases), alias_ready c.args.spot.place c.requires c.args.name c.args.fields.start c.args.fields.end c.with_alias-inner.ensures.last_value.0 c.with_alias-inner.ensures.last_value.1 c.with_alias-inner.ensures.bound)
 
 pub let_bit_range-returns : goal.let_bit_range-returns
-let_bit_range-returns t c = λ q. alias_done c.args.place q c.args.name c.args.start c.args.end c.with_alias-inner.ensures.last_value.0 c.with_alias-inner.ensures.last_value.1 c.with_alias-inner.ensures.bound (found c.check_with_env.new.work _ (alias_ready c.args.place q c.args.name c.args.start c.args.end c.with_alias-inner.ensures.last_value.0 c.with_alias-inner.ensures.last_value.1 c.with_alias-inner.ensures.bound) c.check_with_env.ensures c.in-Done.is)
+let_bit_range-returns t c = λ q.
+    alias_told c.args.spot.place q c.args.name c.args.fields.start c.args.fields.end c.with_alias-inner.ensures.last_value.0 c.with_alias-inner.ensures.last_value.1 c.with_alias-inner.ensures.bound c.check_with_env.new.work c.check_with_env.result
+    (c.check_with_env.ensures (alias_ready c.args.spot.place q c.args.name c.args.fields.start c.args.fields.end c.with_alias-inner.ensures.last_value.0 c.with_alias-inner.ensures.last_value.1 c.with_alias-inner.ensures.bound))
 
-pub let_variable-returns-in-Refused : goal.let_variable-returns-in-Refused
-let_variable-returns-in-Refused t c = λ q. then_refused _ (stopped _ _ (two_first c.args.place q) c.check_with_env.ensures c.in-Refused.is)
+pub let_variable-returns-in_err-d : goal.let_variable-returns-in_err-d
+let_variable-returns-in_err-d t c = λ q. passed_on _ _ _ _ _ _ c.in_err-d.field-0.0 c.from_residual.ensures.1 (then_refused _ (stopped c.check_with_env.new.work (two_first c.args.spot.place q) c.in_err-d.field-0.0 c.in_err-d.ensures))
 
 pub let_variable-check_with_env-requires-2 : goal.let_variable-check_with_env-requires-2
-let_variable-check_with_env-requires-2 t c = (omega (arith, c.decreases), (body_ready c.args.place c.requires (found c.check_with_env.new.work _ (two_first c.args.place c.requires) c.check_with_env.ensures c.in-Done.is) c.sort_kind.ensures c.write_record.ensures c.args.name c.with_variable-inner.ensures.last_value.0 c.with_variable-inner.ensures.last_value.1 c.with_variable-inner.ensures.bound))
-
-pub let_variable-returns-in-Refused-check_with_env : goal.let_variable-returns-in-Refused-check_with_env
-let_variable-returns-in-Refused-check_with_env t c = λ q.
-    let one = found c.check_with_env.new.work _ (two_first c.args.place q) c.check_with_env.ensures c.in-Done.is in
-    let_stops c.args.place q one c.sort_kind.ensures c.write_record.ensures c.args.name c.with_variable-inner.ensures.last_value.0 c.with_variable-inner.ensures.last_value.1 c.with_variable-inner.ensures.bound (stopped _ _ (body_ready c.args.place q one c.sort_kind.ensures c.write_record.ensures c.args.name c.with_variable-inner.ensures.last_value.0 c.with_variable-inner.ensures.last_value.1 c.with_variable-inner.ensures.bound) c.check_with_env-2.ensures c.in-Refused-check_with_env.is)
+let_variable-check_with_env-requires-2 t c =
+    let one = found c.check_with_env.new.work (two_first c.args.spot.place c.requires) c.in_ok-d.ensures in
+    let sort = c.from.ensures ∙ c.number.ensures ∙ c.sort_kind-kind.ensures in
+    (omega (arith, c.decreases), body_ready c.args.spot.place c.requires one sort c.write_record.ensures c.args.name c.with_variable-inner.ensures.last_value.0 c.with_variable-inner.ensures.last_value.1 c.with_variable-inner.ensures.bound)
 
 pub let_variable-returns : goal.let_variable-returns
 let_variable-returns t c = λ q.
-    let one = found c.check_with_env.new.work _ (two_first c.args.place q) c.check_with_env.ensures c.in-Done.is in
-    let_done c.args.place q one c.sort_kind.ensures c.write_record.ensures c.args.name c.with_variable-inner.ensures.last_value.0 c.with_variable-inner.ensures.last_value.1 c.with_variable-inner.ensures.bound (found c.check_with_env-2.new.work _ (body_ready c.args.place q one c.sort_kind.ensures c.write_record.ensures c.args.name c.with_variable-inner.ensures.last_value.0 c.with_variable-inner.ensures.last_value.1 c.with_variable-inner.ensures.bound) c.check_with_env-2.ensures c.in-Done-check_with_env.is)
+    let one = found c.check_with_env.new.work (two_first c.args.spot.place q) c.in_ok-d.ensures in
+    let sort = c.from.ensures ∙ c.number.ensures ∙ c.sort_kind-kind.ensures in
+    let_told c.args.spot.place q one sort c.write_record.ensures c.args.name c.with_variable-inner.ensures.last_value.0 c.with_variable-inner.ensures.last_value.1 c.with_variable-inner.ensures.bound c.check_with_env-2.new.work c.check_with_env-2.result
+    (c.check_with_env-2.ensures (body_ready c.args.spot.place q one sort c.write_record.ensures c.args.name c.with_variable-inner.ensures.last_value.0 c.with_variable-inner.ensures.last_value.1 c.with_variable-inner.ensures.bound))
 
-pub test_negation-returns-in-Refused : goal.test_negation-returns-in-Refused
-test_negation-returns-in-Refused t c = λ q. then_refused _ (stopped _ _ (one_first c.args.place q) c.check_with_env.ensures c.in-Refused.is)
+pub test_negation-returns-in_err-a : goal.test_negation-returns-in_err-a
+test_negation-returns-in_err-a t c = λ q. passed_on _ _ _ _ _ _ c.in_err-a.field-0.0 c.from_residual.ensures.1 (then_refused _ (stopped c.check_with_env.new.work (one_first c.args.spot.place q) c.in_err-a.field-0.0 c.in_err-a.ensures))
 
 pub test_negation-returns-then-not-a : goal.test_negation-returns-then-not-a
-test_negation-returns-then-not-a t c = λ q. negation_refused c.args.place q (found c.check_with_env.new.work _ (one_first c.args.place q) c.check_with_env.ensures c.in-Done.is) (not-true _ c.if-not-a.true)
+test_negation-returns-then-not-a t c = λ q.
+    let refused = negation_refused c.args.spot.place q (found c.check_with_env.new.work (one_first c.args.spot.place q) c.in_ok-a.ensures) (not-true _ c.if-not-a.true) in
+    search rules
 
 pub test_negation-returns : goal.test_negation-returns
-test_negation-returns t c = λ q. negation_done c.args.place q (found c.check_with_env.new.work _ (one_first c.args.place q) c.check_with_env.ensures c.in-Done.is) (not-false _ c.if-not-a.false)
+test_negation-returns t c = λ q. negation_done c.args.spot.place q (found c.check_with_env.new.work (one_first c.args.spot.place q) c.in_ok-a.ensures) (not-false _ c.if-not-a.false)
 
-pub unary-returns-in-Refused : goal.unary-returns-in-Refused
-unary-returns-in-Refused t c = λ k q. then_refused _ (stopped _ _ (one_first c.args.place q) c.check_with_env.ensures c.in-Refused.is)
+pub unary-returns-in_err-a : goal.unary-returns-in_err-a
+unary-returns-in_err-a t c = λ k q. passed_on _ _ _ _ _ _ c.in_err-a.field-0.0 c.from_residual.ensures.1 (then_refused _ (stopped c.check_with_env.new.work (one_first c.args.spot.place q) c.in_err-a.field-0.0 c.in_err-a.ensures))
 
 pub unary-returns : goal.unary-returns
-unary-returns t c = λ k q. unary_done c.args.place q (found c.check_with_env.new.work _ (one_first c.args.place q) c.check_with_env.ensures c.in-Done.is) k
+unary-returns t c = λ k q. unary_done c.args.spot.place q (found c.check_with_env.new.work (one_first c.args.spot.place q) c.in_ok-a.ensures) k
+
+pub check_with_env-returns-in_err-test-in_default : goal.check_with_env-returns-in_err-test-in_default
+check_with_env-returns-in_err-test-in_default t c = λ q.
+    let n = c.in_default in
+    passed_on _ _ _ _ _ _ c.in_err-test-in_default.field-0.0 c.from_residual-in_err-test-in_default.ensures.1 (leaf_is c.args.spot.place q (text_head c.args.s.now c.args.spot.at q.text c.in_ok-head.ensures) (childless c.in_ok-head.head.kind n.not-Union n.not-Intersect n.not-Xor n.not-Difference n.not-Sequence n.not-LtlUntil n.not-Complement n.not-Star n.not-LtlNext n.not-TestNegation n.not-IfThenElse n.not-Let n.not-LetBitRange) c.in_err-test-in_default.ensures)
+
+pub check_with_env-returns-in_ok-test-in_default : goal.check_with_env-returns-in_ok-test-in_default
+check_with_env-returns-in_ok-test-in_default t c = λ q.
+    let n = c.in_default in
+    leaf_done c.args.spot.place q (text_head c.args.s.now c.args.spot.at q.text c.in_ok-head.ensures) (childless c.in_ok-head.head.kind n.not-Union n.not-Intersect n.not-Xor n.not-Difference n.not-Sequence n.not-LtlUntil n.not-Complement n.not-Star n.not-LtlNext n.not-TestNegation n.not-IfThenElse n.not-Let n.not-LetBitRange) c.in_ok-test-in_default.ensures _ refl

@@ -22,7 +22,7 @@ returns-then-is_frame c =
       l.invariant.0,
       λ env b.
           let p = l.invariant.2 env b in
-          p.gives l.last (ends_here a.work.now a.kind a.name l.last some p.env p.bound (sym c.is_frame.ensures ∙ c.if-is_frame.true)),
+          p.gives _ (ends_here a.work.now a.kind a.name l.last some p.env p.bound (sym c.is_frame.ensures ∙ c.if-is_frame.true)),
     )
 
 pub offset_bounds-work-last : goal.offset_bounds-work-last
@@ -61,8 +61,8 @@ loop-last-preserved c =
 pub returns : goal.returns
 returns c =
     let l = c.loop-last in (
-      omega arith,
+      tt,
       λ env b.
           let p = l.invariant.2 env b in
-          p.gives 0 (ends_none p.env (omega arith) p.bound),
+          p.gives _ (ends_none p.env (omega arith) p.bound),
     )

@@ -8,16 +8,16 @@ use Rattle.desugar.proofs.test_negation.negated.plain_turn.Goals as goal
 pub returns-then-p-made : goal.returns-then-p-made
 returns-then-p-made c =
     let p = c.requires in
-    let q = p.kind_value in
+    let q = p.negates_low_kind in
     record {
       kept = kept_all _ _;
-      stepped = λ t h. plain_stop p.layout p.j_lt_n.0 p.j_lt_n.1 h q.0 q.1 q.2 c.if-p-made.true;
+      stepped = λ t h. plain_stop p.room p.left p.within h q.0 q.1 q.2 c.if-p-made.true;
     }
 
 pub new_value-requires : goal.new_value-requires
 new_value-requires c =
     let p = c.requires in
-    turn_value p.layout p.j_lt_n.0 p.j_lt_n.1 p.run.1
+    turn_value p.room p.left p.within p.run.1
 
 pub returns-then-kind-lt7 : goal.returns-then-kind-lt7
 returns-then-kind-lt7 c =
@@ -25,22 +25,22 @@ returns-then-kind-lt7 c =
     let k = c.new_kind.ensures in
     let v = c.new_value.ensures in
     let p = c.requires in
-    let q = p.kind_value in record {
-      kept = rw (w, k, v) (plain_kept p.layout p.j_lt_n.0 p.j_lt_n.1 p.run.1 q.0 q.1 q.2);
-      stepped = λ t h. rw (w, k, v) (plain_leaf p.layout p.j_lt_n.0 p.j_lt_n.1 h q.0 q.1 q.2 c.if-p-made.false c.if-kind-lt7.true);
+    let q = p.negates_low_kind in record {
+      kept = rw (w, k, v) (plain_kept p.room p.left p.within p.run.1 q.0 q.1 q.2);
+      stepped = λ t h. rw (w, k, v) (plain_leaf p.room p.left p.within h q.0 q.1 q.2 c.if-p-made.false c.if-kind-lt7.true);
     }
 
 pub overflow_sub-work : goal.overflow_sub-work
 overflow_sub-work c =
     let p = c.requires in
-    let q = p.kind_value in
-    omega (arith, plain_deep p.layout p.j_lt_n.0 p.j_lt_n.1 p.run.1 q.0 q.1 q.2 c.if-p-made.false c.if-kind-lt7.false)
+    let q = p.negates_low_kind in
+    omega (arith, plain_deep p.room p.left p.within p.run.1 q.0 q.1 q.2 c.if-p-made.false c.if-kind-lt7.false)
 
 pub overflow_sub-result : goal.overflow_sub-result
 overflow_sub-result c =
     let p = c.requires in
-    let q = p.kind_value in
-    omega (arith, plain_deep p.layout p.j_lt_n.0 p.j_lt_n.1 p.run.1 q.0 q.1 q.2 c.if-p-made.false c.if-kind-lt7.false)
+    let q = p.negates_low_kind in
+    omega (arith, plain_deep p.room p.left p.within p.run.1 q.0 q.1 q.2 c.if-p-made.false c.if-kind-lt7.false)
 
 pub returns : goal.returns
 returns c =
@@ -48,7 +48,7 @@ returns c =
     let k = c.new_kind.ensures in
     let v = c.new_value.ensures in
     let p = c.requires in
-    let q = p.kind_value in record {
-      kept = rw (w, k, v) (plain_pushed p.layout p.j_lt_n.0 p.j_lt_n.1 p.run.1 q.0 q.1 q.2 c.if-p-made.false c.if-kind-lt7.false);
-      stepped = λ t h. rw (w, k, v) (plain_turned p.layout p.j_lt_n.0 p.j_lt_n.1 h q.0 q.1 q.2 c.if-p-made.false c.if-kind-lt7.false);
+    let q = p.negates_low_kind in record {
+      kept = rw (w, k, v) (plain_pushed p.room p.left p.within p.run.1 q.0 q.1 q.2 c.if-p-made.false c.if-kind-lt7.false);
+      stepped = λ t h. rw (w, k, v) (plain_turned p.room p.left p.within h q.0 q.1 q.2 c.if-p-made.false c.if-kind-lt7.false);
     }

@@ -1,7 +1,6 @@
 -- `desugar::test_negation::plain::negate_plain` meets its contract.
 use mathlib.Core.Path.{◌≡◌}
 use mathlib.Core.Bool.{true}
-use Prim.Native.Nat.{◌≤◌, ◌-◌}
 use Rattle.expr.specs.Terms.{Core}
 use Rattle.desugar.specs.Memory.{Kept, Lies}
 use Rattle.desugar.specs.PlainNegation.{is_plain}
@@ -10,7 +9,7 @@ use Rattle.desugar.proofs.test_negation.plain.negate_plain.Given as goal
 
 abbrev pub invariant-loop-j : goal.invariant-loop-j
 invariant-loop-j l =
-    (l.j ≤ l.n) × (Kept l.to l.initial.work l.work × ((t : Core) → Lies l.initial.work l.at l.n t → is_plain t ≡ true → Turning l.work t l.at l.n l.to l.j))
-
-abbrev pub decreases-loop-j : goal.decreases-loop-j
-decreases-loop-j l = l.n - l.j
+    record {
+      kept : Kept l.to l.initial.work l.work;
+      turning : (t : Core) → Lies l.initial.work l.at l.n t → is_plain t ≡ true → Turning l.work t l.at l.n l.to l.j;
+    }

@@ -1,0 +1,17 @@
+-- `desugar::leaves::Bound::write` meets its contract.
+use mathlib.Core.Path.{◌≡◌}
+use Prim.Native.Nat.{◌-◌, suc}
+use native.Mathlib.Omega.{arith}
+use Rattle.literals.specs.Results.{literal_bits}
+use Rattle.desugar.proofs.BoundWords.{size_below, size_more}
+use Rattle.desugar.proofs.leaves.Bound.write.Goals as goal
+
+pub write_difference-progress-requires : goal.write_difference-progress-requires
+write_difference-progress-requires c =
+    let b = c.args.self in
+    let p = c.loop-p.p in
+    let bits = literal_bits b.bits in
+    let down : p ≡ suc (p - 1) = omega arith in
+    let more = size_more c.args.upper bits b.width down (omega arith) in
+    let below = size_below c.args.upper bits b.width (p - 1) (omega arith) in
+    (record { room = omega arith; fields = omega arith; some = omega arith; wide = omega arith }, omega arith, c.loop-p.invariant.5)

@@ -1,0 +1,2 @@
+-- What a `?` passes on.
+pub mod Exits

@@ -1,0 +1,2 @@
+-- The refusals, their numbers and their places.
+pub mod Refusals

@@ -1,2 +1,0 @@
--- A law of long arrays.
-mod Arrays
