@@ -76,7 +76,7 @@ uint32_t netkat_version(void);
  * promised stays where a later compiler needs less. */
 #define NETKAT_STACK_CHECK 163840            /* 82192 measured */
 #define NETKAT_STACK_DESUGAR 237568          /* 160112 measured */
-#define NETKAT_STACK_SUBSTITUTE 102400       /* 86512 measured */
+#define NETKAT_STACK_SUBSTITUTE 102400       /* 78320 measured */
 #define NETKAT_STACK_IS_TEST_FRAGMENT 57344  /* 37152 measured */
 #define NETKAT_STACK_NUM_FIELDS 57344        /* 37168 measured */
 #define NETKAT_STACK_COMPUTE_SUBRANGE 4096   /* 48 measured */
