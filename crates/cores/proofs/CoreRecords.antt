@@ -10,7 +10,8 @@ use borrow.Author.Tests.{eq-eqb, ne_eqb}
 use lib.Dec.{leb, eqb}
 use lib.ListN.{length, drop, get_or}
 use lib.Seq.{drop-cons}
-use Rattle.std.specs.Prelude.{Result, Ok, Err}
+use Rattle.std.specs.Prelude.{Ok, Err}
+use Rattle.std.specs.Int.{w32, from_le_bytes}
 use Rattle.refusals.specs.declared.Refusal.{Refusal}
 use Rattle.expr.specs.Kinds.{kind_number}
 use Rattle.expr.specs.declared.kind.Kind.{Kind}
@@ -151,7 +152,7 @@ operator_found m k kind rest is h =
       inside = (omega arith, omega arith);
     }
 
-module _ (m k a b c d v : ℕ) (rest : List ℕ) (bytes : Bytes (a ∷ b ∷ c ∷ d ∷ [])) {f : ℕ} (is : f ≡ a + 256 * (b + 256 * (c + 256 * d)))
+module _ (m k a b c d v : ℕ) (rest : List ℕ) (bytes : Bytes (a ∷ b ∷ c ∷ d ∷ [])) {f : ℕ} (is : f ≡ from_le_bytes w32 (a ∷ b ∷ c ∷ d ∷ []))
     (kind : Kind) (named : kind_number kind ≡ k) (h : atom_bytes m k f v ≡ true) where
   spelled : number_of (a ∷ b ∷ c ∷ d ∷ []) ≡ f
   spelled = omega (arith, is)
@@ -234,7 +235,7 @@ module _ (s : List ℕ) (at : ℕ) (h : at + 7 ≤ length s) where
   pub operator_at : (kind : Kind) → kind_number kind ≡ byte_at 1 → operator_bytes (get_or s at 0) (byte_at 1) ≡ true → CoreRecordFound (drop at s) (Ok (found kind 0 0 2))
   operator_at kind is e = subst (λ (l : List ℕ). CoreRecordFound l (Ok (found kind 0 0 2))) (sym (seven s at h)) (operator_found (get_or s at 0) (byte_at 1) kind _ is e)
 
-  pub atom_at : (kind : Kind) → kind_number kind ≡ byte_at 1 → Sliced s → {f : ℕ} → f ≡ byte_at 2 + 256 * (byte_at 3 + 256 * (byte_at 4 + 256 * byte_at 5))
+  pub atom_at : (kind : Kind) → kind_number kind ≡ byte_at 1 → Sliced s → {f : ℕ} → f ≡ from_le_bytes w32 (byte_at 2 ∷ byte_at 3 ∷ byte_at 4 ∷ byte_at 5 ∷ [])
       → atom_bytes (get_or s at 0) (byte_at 1) f (byte_at 6) ≡ true
       → CoreRecordFound (drop at s) (Ok (found kind f (get_or s at 0 / 32) (6 + get_or s at 0 / 32)))
   atom_at kind named each {f} is e =

@@ -1,11 +1,10 @@
 -- Both passes: what the first answers decides whether the second is run.
 use mathlib.Core.Path.{◌≡◌, refl, sym, ap, ◌∙◌}
-use mathlib.Core.Bool.{true, false, true≢false}
 use mathlib.Core.List.{List}
 use Prim.Native.Nat.{ℕ}
 use native.Mathlib.Omega.{arith}
 use lib.ListN.{length}
-use Rattle.std.specs.Prelude.{Result, Ok, Err}
+use Rattle.std.specs.Prelude.{Ok, Err}
 use Rattle.refusals.specs.declared.Refused.{Refused}
 use Rattle.cores.specs.declared.Counts.{Counts}
 use Rattle.expr.specs.Answers.{Answer, ok, refuse, map_answer, buffer_after}

@@ -1,5 +1,5 @@
 -- What the functions of this crate answer, in the words of the definitions.
-use mathlib.Core.{Path.◌≡◌, Bool.Bool, Bool.true, Bool.false, Bool.cond, Bool.◌&&◌, Bool.◌||◌, List.List, List.◌++◌}
+use mathlib.Core.{Path.◌≡◌, Bool.Bool, Bool.cond, Bool.◌&&◌, Bool.◌||◌, List.List, List.◌++◌}
 use Rattle.std.specs.Prelude.{ℕ, ◌+◌, ◌*◌, ◌^◌, ◌≤◌, max, Result, Ok, Err, Option, IfSome}
 use lib.{Dec.leb, Dec.ltb, Dec.eqb, ListN.length, ListN.drop}
 use Rattle.literals.specs.{Reading.Read, Reading.got, Reading.fault}

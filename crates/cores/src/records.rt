@@ -61,7 +61,7 @@ pub fn is_atom(map: u8, kind: u8, field: u32, value: u8) -> bool
 pub fn number_of(a: u8, b: u8, c: u8, d: u8) -> u32
     ensures { result ≡ a + 256 * (b + 256 * (c + 256 * d)) }
 {
-    a as u32 + 256 * (b as u32 + 256 * (c as u32 + 256 * (d as u32)))
+    u32::from_le_bytes([a, b, c, d])
 }
 
 // An operator or an atom on a field, which are nearly all records, by its first bytes, if one of these stands at the index.
@@ -82,7 +82,7 @@ pub fn read_short(s: &[u8], at: usize) -> Option<CoreRecord>
             size: 2,
         });
     }
-    let field = number_of(s[at + 2], s[at + 3], s[at + 4], s[at + 5]);
+    let field = u32::from_le_bytes([s[at + 2], s[at + 3], s[at + 4], s[at + 5]]);
     if !is_atom(map, kind, field, s[at + 6]) {
         return None;
     }

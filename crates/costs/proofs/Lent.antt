@@ -4,23 +4,20 @@ use mathlib.Core.Bool.{cond}
 use mathlib.Core.List.{List}
 use Prim.Native.Nat.{ℕ, ◌-◌, ◌≤◌, ◌<◌}
 use native.Mathlib.Omega.{arith}
-use borrow.Author.Tests.{ne_eqb}
 use lib.Dec.{leb}
-use lib.ListN.{length, take, drop, get_or-eq_default}
+use lib.ListN.{length, take, get_or-eq_default}
 use Rattle.std.specs.Prelude.{Ok, Err}
 use Rattle.refusals.specs.Refusals.{number_of}
 use Rattle.refusals.specs.declared.Refusal.{Refusal}
 use Rattle.literals.specs.declared.BitSlice.{BitSlice}
 use Rattle.literals.specs.Bits.{Bits, unpack}
 use Rattle.literals.specs.Patterns.{Cidr, Exact, IpRange, Pattern, Wildcard}
-use Rattle.literals.specs.Reading.{got, fault, lent, bytes_for}
 use Rattle.literals.specs.Results.{literal_bits, LentFound}
 use Rattle.literals.proofs.Values.{lent_whole}
 use Rattle.expr.specs.Answers.{Answer, and_then, map_answer, ok, refuse}
 use Rattle.expr.specs.Terms.{Direct, Matches, size}
 use Rattle.desugar.specs.Costs.{cost, pattern_cost}
 use Rattle.desugar.specs.Leaves.{use_core}
-use Rattle.desugar.specs.RangedWords.{rule_answer}
 use Rattle.desugar.specs.Rules.{range_rule}
 use Rattle.desugar.proofs.Costs.{cost_size}
 use Rattle.desugar.proofs.Decides.{decided, range_decides}

@@ -9,7 +9,8 @@ ghost use Rattle.costs.specs.Lent.{lent_cost};
 ghost use Rattle.costs.specs.Results.{cost_answer, pattern_with};
 
 use desugar::Fields;
-use desugar::ranged::Use;
+use desugar::judged::JudgedUse;
+use desugar::uses::Use;
 use expr::kind::{Kind, Pattern};
 use literals::BitSlice;
 use refusals::Refusal;
@@ -43,8 +44,11 @@ fn match_cost(
         b,
     };
     desugar::rules::range_rule(matched, fields)?;
-    let n = (fields.end - fields.start) as usize;
-    Ok(desugar::ranged::use_size(matched, n))
+    let judged = JudgedUse {
+        used: matched,
+        fields,
+    };
+    Ok(judged.size())
 }
 
 // The cost of a pattern that a host lends, on the fields from `start` up to `end`.

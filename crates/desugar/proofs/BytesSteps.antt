@@ -1,18 +1,18 @@
 -- The steps of `desugar` on bytes: the allowance and its work memory, the form, the walk, and the core's bytes.
-use mathlib.Core.Path.{◌≡◌, refl, sym, ap, subst, ◌∙◌}
+use mathlib.Core.Path.{◌≡◌, refl, sym, ap, ◌∙◌}
 use mathlib.Core.Bool.{Bool, true, false, not}
 use mathlib.Core.List.{List, [], append-nil}
 use Prim.Native.Nat.{ℕ, ◌+◌, ◌-◌, ◌*◌, ◌≤◌, ◌<◌}
 use native.Mathlib.Omega.{arith}
 use lib.Dec.{leb}
-use lib.ListN.{length}
+use lib.ListN.{length, take, drop}
 use borrow.Author.Tests.{le-leb, lt-leb}
 use Rattle.refusals.specs.Refusals.{number_of, refused_at}
 use Rattle.refusals.specs.declared.Refusal.TheVariants.{WorkMemory, BufferTooShort}
 use Rattle.refusals.specs.declared.Refusal.TheVariants as refusal
 use Rattle.std.specs.Prelude.{Result, Ok, Err}
 use Rattle.refusals.specs.declared.Refused.{Refused}
-use Rattle.desugar.specs.declared.went.Walked.{Walked}
+use Rattle.desugar.specs.declared.operands.Walked.{Walked}
 use Rattle.literals.proofs.Logic.{leb_is}
 use Rattle.expr.specs.Answers.{Answer, ok, refuse, and_then, map_answer, buffer_after}
 use Rattle.expr.specs.Terms.{Core, Expr, records}
@@ -22,11 +22,12 @@ use Rattle.expr.proofs.FormTheorem.{decode_only}
 use Rattle.expr.proofs.Slices.{Sliced, bytes_each}
 use Rattle.desugar.specs.Meter.{left}
 use Rattle.desugar.specs.Desugar.{desugar, max_allowance, work_for, drawn_of, desugar_bytes}
-use Rattle.desugar.specs.Memory.{Lies}
+use Rattle.desugar.specs.Memory.{words}
 use Rattle.desugar.specs.CoreBytes.{Writable, CoreWritten}
-use Rattle.desugar.specs.WalkWords.{Ready, Came, WalkedAs}
+use Rattle.desugar.specs.WalkWords.{Ready, WalkedCore, WalkedAs}
 use Rattle.desugar.specs.DesugarBytes.{desugared_answer, DesugaredAs, Allowance, Granted}
 use Rattle.desugar.specs.declared.bytes.Desugared.{Desugared}
+use Rattle.desugar.proofs.Regions.{region_words}
 
 -- the answer is known, and what the buffer holds
 answers : {bs : List ℕ} {n work : ℕ} {out out' : List ℕ} {r : Result Desugared Refused} (y : Answer (List ℕ × ℕ)) → desugar_bytes bs n work (length out) ≡ y
@@ -114,9 +115,9 @@ module _ {bs : List ℕ} {n : ℕ} {xs : List ℕ} (g : Granted bs n xs) (bytes 
             };
       }
 
-  -- the walk came to the term's core
-  abbrev pub CameWhole : List ℕ → Walked → Type 0
-  CameWhole xs' w = Came (desugar [] e 0 (left n)) (0 + length (encode e)) (0 + records e) 0 n max_depth xs xs' w
+  -- the walk ends with the core of the term
+  abbrev pub WholeWalked : List ℕ → Walked → Type 0
+  WholeWalked xs' w = WalkedCore (desugar [] e 0 (left n)) (0 + length (encode e)) (0 + records e) 0 n max_depth xs xs' w
 
   -- what the walk promises of its outcome
   abbrev Walks : ℕ → List ℕ → Result Walked Refused → Type 0
@@ -130,38 +131,43 @@ module _ {bs : List ℕ} {n : ℕ} {xs : List ℕ} (g : Granted bs n xs) (bytes 
       let no : desugar [] e 0 (left n) ≡ refuse (number_of r.refusal) r.place = walk (whole_ready none) in
       answers (refuse (number_of r.refusal) r.place) (granted (length out) (rw no refl)) refl refl
 
-  pub walk_came : {last : ℕ} {w : Walked} (xs' : List ℕ) → last ≡ 0 → Walks last xs' (Ok w) → CameWhole xs' w
+  pub walk_done : {last : ℕ} {w : Walked} (xs' : List ℕ) → last ≡ 0 → Walks last xs' (Ok w) → WholeWalked xs' w
   unfolding whole_ready
-  walk_came xs' none walk = walk (whole_ready none)
+  walk_done xs' none walk = walk (whole_ready none)
 
   -- ## The core's bytes
 
-  module _ {xs' : List ℕ} {w : Walked} (came : CameWhole xs' w) where
+  module _ {xs' : List ℕ} {w : Walked} (walked : WholeWalked xs' w) where
     abbrev c : Core
-    c = came.core
+    c = walked.core
 
-    pub core_inside : w.at + 3 * w.count ≤ length xs'
-    core_inside = omega (arith, came.reach, came.kept.long, g.room)
+    pub core_inside : w.core.at + 3 * w.core.count ≤ length xs'
+    core_inside = omega (arith, walked.reach, walked.kept.long, g.room)
 
     pub left_of : w.left ≤ n
-    left_of = omega (arith, came.drawn)
+    left_of = omega (arith, walked.drawn)
 
-    module _ {b : Bool} (out : List ℕ) (told : (c : Core) → Lies xs' w.at w.count c → b ≡ leb (length (encode_core c)) (length out)) where
-      pub no_room : not b ≡ true → DesugaredAs bs n (length xs) out out (Err (refused_at BufferTooShort 0))
-      no_room h =
-          let over : leb (length (encode_core c)) (length out) ≡ false = sym (told c came.lies) ∙ twice b ∙ ap not h in
-          answers (refuse 26 0) (granted (length out) (rw (came.is, over) refl)) refl refl
+    -- the core as a slice
+    module _ {ys : List ℕ} (slice : ys ≡ take (3 * w.core.count) (drop w.core.at xs')) where
+      numbers : ys ≡ words c
+      numbers = slice ∙ region_words walked.lies
 
-      module _ (h : not b ≡ false) where
-        enough : leb (length (encode_core c)) (length out) ≡ true
-        enough = sym (told c came.lies) ∙ twice b ∙ ap not h
+      module _ {b : Bool} (out : List ℕ) (fits : (c : Core) → ys ≡ words c → b ≡ leb (length (encode_core c)) (length out)) where
+        pub no_room : not b ≡ true → DesugaredAs bs n (length xs) out out (Err (refused_at BufferTooShort 0))
+        no_room h =
+            let over : leb (length (encode_core c)) (length out) ≡ false = sym (fits c numbers) ∙ twice b ∙ ap not h in
+            answers (refuse 26 0) (granted (length out) (rw (walked.is, over) refl)) refl refl
 
-        pub writable : Writable xs' w.at w.count out
-        writable = record { core = c; lies = came.lies; room = (leb_is (length (encode_core c)) (length out)).0 enough }
+        module _ (h : not b ≡ false) where
+          enough : leb (length (encode_core c)) (length out) ≡ true
+          enough = sym (fits c numbers) ∙ twice b ∙ ap not h
 
-        pub written : (out' : List ℕ) {m : ℕ} → ((c : Core) → Lies xs' w.at w.count c → CoreWritten c out out' m)
-            → DesugaredAs bs n (length xs) out out' (Ok (record { length = m; drawn = n - w.left }))
-        written out' wrote =
-            let core = wrote c came.lies in
-            answers (ok (encode_core c, n - w.left)) (granted (length out) (rw (came.is, enough) refl)) (ap (λ k. ok (k, n - w.left)) core.long)
-            core.bytes
+          pub writable : Writable ys out
+          writable = record { core = c; is = numbers; room = (leb_is (length (encode_core c)) (length out)).0 enough }
+
+          pub written : (out' : List ℕ) {m : ℕ} → ((c : Core) → ys ≡ words c → CoreWritten c out out' m)
+              → DesugaredAs bs n (length xs) out out' (Ok (record { length = m; drawn = n - w.left }))
+          written out' writes =
+              let core = writes c numbers in
+              answers (ok (encode_core c, n - w.left)) (granted (length out) (rw (walked.is, enough) refl)) (ap (λ k. ok (k, n - w.left)) core.long)
+              core.bytes

@@ -11,17 +11,18 @@ use lib.Seq.{sets}
 use borrow.Author.Tests.{leb-true, leb-false, le-leb, lt-leb, eq-eqb, ne_eqb}
 use Rattle.std.specs.Prelude.{Result, Ok, Err}
 use Rattle.refusals.specs.declared.Refused.{Refused}
-use Rattle.desugar.specs.declared.went.Walked.{Walked}
+use Rattle.desugar.specs.declared.operands.Walked.{Walked}
+use Rattle.desugar.specs.declared.guarded.Guarded.{Guarded}
 use Rattle.expr.specs.Answers.{Answer, ok, refuse}
 use Rattle.expr.specs.Terms.{Op1, Op2, Union, Intersect, Xor, Difference, Sequence, LtlUntil, Core, leaf, one, two, op1_kind, op2_kind, size}
 use Rattle.desugar.specs.Meter.{Meter, left, drawing}
 use Rattle.desugar.specs.Negation.{is_test, is_one, join, join_draw, again, negate}
 use Rattle.desugar.specs.Memory.{words, Holds, Kept, Lies}
 use Rattle.desugar.specs.NegationOutcome.{outcome, Negates}
-use Rattle.desugar.specs.WalkWords.{WalkedAs, Operands, drops, negating, choosing, negated_size, BranchRoom, United}
+use Rattle.desugar.specs.WalkWords.{WalkedAs, Operands, drops, negating, choosing, negated_size, negated_at, BranchRoom, United}
 use Rattle.desugar.specs.declared.test_negation.NegationError.{NegationError}
 use Rattle.desugar.specs.declared.test_negation.NegationError.TheVariants.{NotTest, TooLarge}
-use Rattle.desugar.proofs.Regions.{head, moved, joined, stored, over, under, kept_then, kept_less, kept_sets, length_words, size_pos}
+use Rattle.desugar.proofs.Regions.{lies_at, moved, joined, stored, over, under, kept_then, kept_less, kept_sets, length_words, size_pos}
 use Rattle.desugar.proofs.Frames.{lies_kept}
 use Rattle.desugar.proofs.WalkLaws.{wider}
 use Rattle.desugar.proofs.Room.{Joined, node, left_dropped_fact, right_dropped_fact, join_draws}
@@ -47,10 +48,6 @@ pub lies_copied : {xs ys : List ℕ} {at to count : ℕ} → ((zs : List ℕ) �
     → (c : Core) → Lies xs at count c → Lies ys to count c
 lies_copied f c l = record { holds = f (words c) (length_words c ∙ ap (λ (k : ℕ). 3 * k) (sym l.count)) l.holds; count = l.count }
 
--- the same core, at an index and of a count that are equal
-pub lies_at : {xs : List ℕ} {at to n m : ℕ} {c : Core} → at ≡ to → n ≡ m → Lies xs at n c → Lies xs to m c
-lies_at e f l = record { holds = moved l.holds e refl; count = sym f ∙ l.count }
-
 lies_over : {xs : List ℕ} {at n : ℕ} {c : Core} (j : ℕ) (vs : List ℕ) → j + length vs ≤ at → Lies xs at n c → Lies (sets xs j vs) at n c
 lies_over j vs h l = record { holds = over j vs h l.holds; count = l.count }
 
@@ -59,14 +56,16 @@ lies_under {c = c} j vs h l = record { holds = under j vs (omega (arith, length_
 
 -- ## Sequence's dropping
 
-module _ (o : Op2) (c : Core) {xs : List ℕ} {at count kind : ℕ} (is : op2_kind o ≡ kind) (lies : Lies xs at count c) where
+module _ (o : Op2) (c : Core) {xs : List ℕ} {kind : ℕ} (is : op2_kind o ≡ kind) (numbers : xs ≡ words c) where
   -- another operator
   pub drops_no : (kind ≡ 11 → ⊥) → false ≡ drops o c
   drops_no n = sym (ap (λ (b : Bool). b && is_one c) (ne_eqb (op2_kind o) 11 (λ e. n (sym is ∙ e))))
 
   -- a core of more than one record
-  pub drops_larger : kind ≡ 11 → (count ≡ 1 → ⊥) → false ≡ drops o c
-  drops_larger k n = sym (ap (λ (b : Bool). b && is_one c) (eq-eqb (op2_kind o) 11 (is ∙ k)) ∙ larger c (λ e. n (lies.count ∙ e)))
+  pub drops_larger : kind ≡ 11 → (length xs ≡ 3 → ⊥) → false ≡ drops o c
+  drops_larger k n =
+      sym (ap (λ (b : Bool). b && is_one c) (eq-eqb (op2_kind o) 11 (is ∙ k))
+      ∙ larger c (λ e. n (ap length numbers ∙ length_words c ∙ ap (λ m. 3 * m) e)))
     where
       larger : (c : Core) → (size c ≡ 1 → ⊥) → is_one c ≡ false
       larger (leaf a) n = absurd (n refl)
@@ -74,13 +73,13 @@ module _ (o : Op2) (c : Core) {xs : List ℕ} {at count kind : ℕ} (is : op2_ki
       larger (two o a b) n = refl
 
   -- a core of one record is what its kind says
-  pub drops_single : kind ≡ 11 → count ≡ 1 → eqb (get_or xs at 0) 1 ≡ drops o c
-  drops_single k e = single c lies ∙ sym (ap (λ (b : Bool). b && is_one c) (eq-eqb (op2_kind o) 11 (is ∙ k)))
+  pub drops_single : kind ≡ 11 → length xs ≡ 3 → eqb (get_or xs 0 0) 1 ≡ drops o c
+  drops_single k e = single c numbers ∙ sym (ap (λ (b : Bool). b && is_one c) (eq-eqb (op2_kind o) 11 (is ∙ k)))
     where
-      single : (c : Core) → Lies xs at count c → eqb (get_or xs at 0) 1 ≡ is_one c
-      single (leaf a) l = ap (λ (k : ℕ). eqb k 1) (head l.holds)
-      single (one o c) l = absurd (omega (arith, e, l.count, size_pos c))
-      single (two o a b) l = absurd (omega (arith, e, l.count, size_pos a, size_pos b))
+      single : (c : Core) → xs ≡ words c → eqb (get_or xs 0 0) 1 ≡ is_one c
+      single (leaf a) w = ap (λ (ys : List ℕ). eqb (get_or ys 0 0) 1) w
+      single (one o c) w = absurd (omega (arith, e, ap length w, length_words (one o c), size_pos c))
+      single (two o a b) w = absurd (omega (arith, e, ap length w, length_words (two o a b), size_pos a, size_pos b))
 
 -- the first operand is kept and the second dropped: the first is the result
 join_drops : (o : Op2) (c d : Core) → drops o c ≡ false → drops o d ≡ true → (join_draw o c d ≡ 0) × (join o c d ≡ c)
@@ -117,7 +116,7 @@ module _ (o : Op2) (c d : Core) (at k : ℕ) (p : drops o c ≡ false) where
 two_words : {xs : List ℕ} {at n m : ℕ} (c d : Core) → Lies xs at n c → Lies xs (at + 3 * n) m d → Holds xs at (words c ++ words d)
 two_words c d l r = joined (words c) (words d) l.holds (moved r.holds (omega (arith, length_words c, l.count)) refl)
 
-pub one_operand : (o : Op1) (c : Core) {kind : ℕ} {w : Walked} {xs : List ℕ} → op1_kind o ≡ kind → Lies xs w.at w.count c → Operands (one o c) kind w xs
+pub one_operand : (o : Op1) (c : Core) {kind : ℕ} {w : Walked} {xs : List ℕ} → op1_kind o ≡ kind → Lies xs w.core.at w.core.count c → Operands (one o c) kind w xs
 one_operand o c e l = record {
   rest = words c;
   words_are = ap (λ (k : ℕ). k ∷ 0 ∷ 0 ∷ words c) e;
@@ -125,8 +124,8 @@ one_operand o c e l = record {
   count = omega (arith, l.count);
 }
 
-pub two_operands : (o : Op2) (c d : Core) {kind n m : ℕ} {w : Walked} {xs : List ℕ} → op2_kind o ≡ kind → w.count ≡ n + m
-    → Lies xs w.at n c → Lies xs (w.at + 3 * n) m d → Operands (two o c d) kind w xs
+pub two_operands : (o : Op2) (c d : Core) {kind n m : ℕ} {w : Walked} {xs : List ℕ} → op2_kind o ≡ kind → w.core.count ≡ n + m
+    → Lies xs w.core.at n c → Lies xs (w.core.at + 3 * n) m d → Operands (two o c d) kind w xs
 two_operands o c d e f l r = record {
   rest = words c ++ words d;
   words_are = ap (λ (k : ℕ). k ∷ 0 ∷ 0 ∷ (words c ++ words d)) e;
@@ -139,10 +138,10 @@ put_record {xs} at kind rest h =
     joined (kind ∷ 0 ∷ 0 ∷ []) rest (stored xs at (kind ∷ 0 ∷ 0 ∷ []) (omega (arith, h.fits))) (over at (kind ∷ 0 ∷ 0 ∷ []) (omega arith) h)
 
 -- the record is written below its operands
-pub sealed : {c : Core} {kind : ℕ} {w : Walked} {xs : List ℕ} → 3 ≤ w.at → Operands c kind w xs
-    → Lies (sets xs (w.at - 3) (kind ∷ 0 ∷ 0 ∷ [])) (w.at - 3) (w.count + 1) c
+pub sealed : {c : Core} {kind : ℕ} {w : Walked} {xs : List ℕ} → 3 ≤ w.core.at → Operands c kind w xs
+    → Lies (sets xs (w.core.at - 3) (kind ∷ 0 ∷ 0 ∷ [])) (w.core.at - 3) (w.core.count + 1) c
 sealed {c} {kind} {w} {xs} h p = record {
-  holds = moved (put_record (w.at - 3) kind p.rest (moved p.holds (omega arith) refl)) refl (sym p.words_are);
+  holds = moved (put_record (w.core.at - 3) kind p.rest (moved p.holds (omega arith) refl)) refl (sym p.words_are);
   count = sym p.count;
 }
 
@@ -153,64 +152,74 @@ put_two o c d at n m l r = record {
   count = omega (arith, l.count, r.count);
 }
 
--- behind the condition and the first branch of an If
-abbrev mid : ℕ → ℕ → ℕ → ℕ
-mid top n m = top + 6 + 3 * n + 3 * m
-
 -- an If of its four cores, when its other branch has moved to their end
-module _ {xs ys zs : List ℕ} {top n m s : ℕ} {e : Walked} {c t c' d : Core} (u : United xs top n m s e c t c' d)
-    (k : Kept (mid top n m + 3 + 3 * s) xs ys) (l : Lies ys (mid top n m + 3 + 3 * s) e.count d)
-    (is : zs ≡ sets (sets (sets ys (mid top n m) (11 ∷ 0 ∷ 0 ∷ [])) (top + 3) (11 ∷ 0 ∷ 0 ∷ [])) top (7 ∷ 0 ∷ 0 ∷ [])) where
-  pub united_kept : Kept top xs zs
-  united_kept =
-      subst (λ (m : List ℕ). Kept top xs m) (sym is)
-      (kept_then (kept_less (omega arith) k)
-      (kept_then (kept_sets top _ (mid top n m) (11 ∷ 0 ∷ 0 ∷ []) (omega arith))
-      (kept_then (kept_sets top _ (top + 3) (11 ∷ 0 ∷ 0 ∷ []) (omega arith)) (kept_sets top _ top (7 ∷ 0 ∷ 0 ∷ []) (omega arith)))))
+module _ (g : Guarded) where
+  abbrev n : ℕ
+  n = g.condition.count
 
-  pub united_lies : Lies zs top (3 + n + m + s + e.count) (two Union (two Sequence c t) (two Sequence c' d))
-  united_lies =
-      let first : Lies ys (top + 3 + 3) n c = lies_at (omega arith) refl (lies_kept k (omega arith) u.condition) in
-      let second : Lies ys (top + 3 + 3 + 3 * n) m t = lies_at (omega arith) refl (lies_kept k (omega arith) u.first) in
-      let third : Lies ys (mid top n m + 3) s c' = lies_at (omega arith) refl (lies_kept k (omega arith) u.negated) in
-      let lower = put_two Sequence c' d (mid top n m) s e.count third l in
-      let upper =
-      put_two Sequence c t (top + 3) n m (lies_under (mid top n m) (11 ∷ 0 ∷ 0 ∷ []) (omega arith) first) (lies_under (mid top n m) (11 ∷ 0 ∷ 0 ∷ []) (omega arith) second)
-      in
-      subst (λ (a : List ℕ). Lies a top (3 + n + m + s + e.count) (two Union (two Sequence c t) (two Sequence c' d))) (sym is)
-      (lies_at refl (omega arith)
-      (put_two Union (two Sequence c t) (two Sequence c' d) top (1 + n + m) (1 + s + e.count) upper
-      (lies_at (omega arith) refl (lies_over (top + 3) (11 ∷ 0 ∷ 0 ∷ []) (omega arith) lower))))
+  abbrev m : ℕ
+  m = g.branch.count
+
+  abbrev top : ℕ
+  top = g.condition.at - 6
+
+  -- where the record of the second Sequence goes
+  abbrev mid : ℕ
+  mid = g.branch.at + 3 * m
+
+  module _ {xs ys zs : List ℕ} {size : ℕ} {e : Walked} {c t c' d : Core} (u : United xs g size e c t c' d)
+      (k : Kept (negated_at g + 3 * size) xs ys) (l : Lies ys (negated_at g + 3 * size) e.core.count d)
+      (is : zs ≡ sets (sets (sets ys mid (11 ∷ 0 ∷ 0 ∷ [])) (top + 3) (11 ∷ 0 ∷ 0 ∷ [])) top (7 ∷ 0 ∷ 0 ∷ [])) where
+    pub united_kept : Kept top xs zs
+    united_kept =
+        subst (λ (m : List ℕ). Kept top xs m) (sym is)
+        (kept_then (kept_less (omega (arith, g.low, g.behind)) k)
+        (kept_then (kept_sets top _ mid (11 ∷ 0 ∷ 0 ∷ []) (omega (arith, g.low, g.behind)))
+        (kept_then (kept_sets top _ (top + 3) (11 ∷ 0 ∷ 0 ∷ []) (omega arith)) (kept_sets top _ top (7 ∷ 0 ∷ 0 ∷ []) (omega arith)))))
+
+    pub united_lies : Lies zs top (3 + n + m + size + e.core.count) (two Union (two Sequence c t) (two Sequence c' d))
+    united_lies =
+        let first : Lies ys (top + 3 + 3) n c = lies_at (omega (arith, g.low)) refl (lies_kept k (omega (arith, g.behind)) u.condition) in
+        let second : Lies ys (top + 3 + 3 + 3 * n) m t = lies_at (omega (arith, g.low, g.behind)) refl (lies_kept k (omega arith) u.first) in
+        let third : Lies ys (mid + 3) size c' = lies_kept k (omega arith) u.negated in
+        let lower = put_two Sequence c' d mid size e.core.count third l in
+        let upper =
+        put_two Sequence c t (top + 3) n m (lies_under mid (11 ∷ 0 ∷ 0 ∷ []) (omega (arith, g.low, g.behind)) first) (lies_under mid (11 ∷ 0 ∷ 0 ∷ []) (omega (arith, g.low, g.behind)) second)
+        in
+        subst (λ (a : List ℕ). Lies a top (3 + n + m + size + e.core.count) (two Union (two Sequence c t) (two Sequence c' d))) (sym is)
+        (lies_at refl (omega arith)
+        (put_two Union (two Sequence c t) (two Sequence c' d) top (1 + n + m) (1 + size + e.core.count) upper
+        (lies_at (omega (arith, g.low, g.behind)) refl (lies_over (top + 3) (11 ∷ 0 ∷ 0 ∷ []) (omega (arith, g.low, g.behind)) lower))))
 
 -- ## Negations
 
-told_no_test : (b w : Bool) (n : ℕ) → Err NotTest ≡ outcome b w n → b ≡ false
-told_no_test false w n e = refl
-told_no_test true false n e = let z : ◌≡◌ {A = ℕ} 0 1 = cc in absurd (omega arith)
-told_no_test true true n e = let z : ◌≡◌ {A = ℕ} 0 1 = cc in absurd (omega arith)
+outcome_no_test : (b w : Bool) (n : ℕ) → Err NotTest ≡ outcome b w n → b ≡ false
+outcome_no_test false w n e = refl
+outcome_no_test true false n e = let z : ◌≡◌ {A = ℕ} 0 1 = cc in absurd (omega arith)
+outcome_no_test true true n e = let z : ◌≡◌ {A = ℕ} 0 1 = cc in absurd (omega arith)
 
-told_large : (b w : Bool) (n : ℕ) → Err TooLarge ≡ outcome b w n → (b ≡ true) × (w ≡ false)
-told_large false w n e = let z : ◌≡◌ {A = ℕ} 0 1 = cc in absurd (omega arith)
-told_large true false n e = (refl, refl)
-told_large true true n e = let z : ◌≡◌ {A = ℕ} 0 1 = cc in absurd (omega arith)
+outcome_large : (b w : Bool) (n : ℕ) → Err TooLarge ≡ outcome b w n → (b ≡ true) × (w ≡ false)
+outcome_large false w n e = let z : ◌≡◌ {A = ℕ} 0 1 = cc in absurd (omega arith)
+outcome_large true false n e = (refl, refl)
+outcome_large true true n e = let z : ◌≡◌ {A = ℕ} 0 1 = cc in absurd (omega arith)
 
-told_size : (b w : Bool) (n s : ℕ) → Ok s ≡ outcome b w n → (b ≡ true) × (w ≡ true) × (s ≡ n)
-told_size false w n s e = let z : ◌≡◌ {A = ℕ} 0 1 = cc in absurd (omega arith)
-told_size true false n s e = let z : ◌≡◌ {A = ℕ} 0 1 = cc in absurd (omega arith)
-told_size true true n s e = (refl, refl, cc)
+outcome_size : (b w : Bool) (n s : ℕ) → Ok s ≡ outcome b w n → (b ≡ true) × (w ≡ true) × (s ≡ n)
+outcome_size false w n s e = let z : ◌≡◌ {A = ℕ} 0 1 = cc in absurd (omega arith)
+outcome_size true false n s e = let z : ◌≡◌ {A = ℕ} 0 1 = cc in absurd (omega arith)
+outcome_size true true n s e = (refl, refl, cc)
 
 module _ {xs : List ℕ} {c : Core} {at limit : ℕ} {r : Result ℕ NegationError} (h : Negates xs c at limit r) where
   not_test : r ≡ Err NotTest → is_test c ≡ false
-  not_test e = told_no_test (is_test c) (leb (size (negate c)) limit) (size (negate c)) (sym e ∙ h.is)
+  not_test e = outcome_no_test (is_test c) (leb (size (negate c)) limit) (size (negate c)) (sym e ∙ h.is)
 
   too_large : r ≡ Err TooLarge → (is_test c ≡ true) × (limit < size (negate c))
   too_large e =
-      let t : (is_test c ≡ true) × (leb (size (negate c)) limit ≡ false) = told_large (is_test c) (leb (size (negate c)) limit) (size (negate c)) (sym e ∙ h.is) in
+      let t : (is_test c ≡ true) × (leb (size (negate c)) limit ≡ false) = outcome_large (is_test c) (leb (size (negate c)) limit) (size (negate c)) (sym e ∙ h.is) in
       (t.0, leb-false _ _ t.1)
 
   pub of_size : (s : ℕ) → r ≡ Ok s → (is_test c ≡ true) × (size (negate c) ≤ limit) × (s ≡ size (negate c))
   of_size s e =
-      let t : (is_test c ≡ true) × (leb (size (negate c)) limit ≡ true) × (s ≡ size (negate c)) = told_size (is_test c) (leb (size (negate c)) limit) (size (negate c)) s (sym e ∙ h.is) in
+      let t : (is_test c ≡ true) × (leb (size (negate c)) limit ≡ true) × (s ≡ size (negate c)) = outcome_size (is_test c) (leb (size (negate c)) limit) (size (negate c)) s (sym e ∙ h.is) in
       (t.0, leb-true _ _ t.1, t.2)
 
   pub negation_lies : (s : ℕ) → r ≡ Ok s → Lies xs at s (negate c)
@@ -244,8 +253,8 @@ module _ {xs : List ℕ} {c : Core} {at limit : ℕ} {r : Result ℕ NegationErr
         (ap (λ (n : ℕ). drawing (n + 3) place (two Union (two Sequence c t) (two Sequence (negate c) d)) (left k)) (sym (of_size s e).2))
 
 -- the room of an If whose condition's negation has s records
-pub branch_room : {xs : List ℕ} {top n m : ℕ} {e : Walked} {r : Result ℕ NegationError} (s : ℕ) → r ≡ Ok s → BranchRoom xs top n m (negated_size r) e → BranchRoom xs top n m s e
-branch_room {xs} {top} {n} {m} {e} s is p = subst (λ (k : ℕ). BranchRoom xs top n m k e) (ap negated_size is) p
+pub branch_room : {xs : List ℕ} {g : Guarded} {e : Walked} {r : Result ℕ NegationError} (s : ℕ) → r ≡ Ok s → BranchRoom xs g (negated_size r) e → BranchRoom xs g s e
+branch_room {xs} {g} {e} s is p = subst (λ (k : ℕ). BranchRoom xs g k e) (ap negated_size is) p
 
 -- ## How large a negation is
 

@@ -1,26 +1,26 @@
--- The walk over one term: its record says what it is, and what is told of its operands is told of the term.
+-- The walk over one term: its record says what it is, and what is said of its operands is said of the term.
 use mathlib.Core.Path.{◌≡◌, refl, sym, ap, subst, ◌∙◌}
 use mathlib.Core.Logic.{◌⊎◌, inl, inr}
 use mathlib.Core.List.{List, [], ◌∷◌}
-use Prim.Native.Nat.{ℕ, zero, suc, ◌+◌, ◌-◌, ◌≤◌, ◌<◌}
+use Prim.Native.Nat.{ℕ, ◌+◌, ◌-◌, ◌≤◌}
 use native.Mathlib.Omega.{arith}
 use lib.ListN.{length, get_or, drop, length-append, length-drop}
 use lib.Seq.{drop-drop}
 use Rattle.expr.specs.declared.kind.Kind.{Kind}
 use Rattle.expr.specs.declared.kind.Kind.TheVariants as kind
 use Rattle.expr.specs.Kinds.{kind_number}
-use Rattle.std.specs.Prelude.{Result, Ok, Err}
+use Rattle.std.specs.Prelude.{Result, Ok}
 use Rattle.refusals.specs.declared.Refused.{Refused}
-use Rattle.desugar.specs.declared.went.Walked.{Walked}
-use Rattle.expr.specs.Terms.{Zero, Op1, Complement, Star, LtlNext, Op2, Union, Intersect, Xor, Difference, Sequence, LtlUntil, Core, Expr, Plain, Unary, Binary, op1_kind, op2_kind, records}
+use Rattle.desugar.specs.declared.operands.Walked.{Walked}
+use Rattle.expr.specs.Terms.{TestNegation, IfThenElse, Let, LetBitRange, Zero, Op1, Complement, Star, LtlNext, Op2, Union, Intersect, Xor, Difference, Sequence, LtlUntil, Core, Expr, Plain, Unary, Binary, op1_kind, op2_kind, records}
 use Rattle.expr.specs.Records.{Record}
 use Rattle.expr.specs.Form.{Node, node0, node1, node2, node3, nodes, node_of, encode}
 use Rattle.expr.specs.Replaced.{encode_all, records_all}
-use Rattle.expr.specs.Results.{record_of, child_count, arity_of}
+use Rattle.expr.specs.Results.{record_of, child_count, arity_of, RecordFound}
 use Rattle.expr.specs.declared.records.Head.{Head}
 use Rattle.expr.proofs.TermShape.{kids, records_is, depth_is, fits_is}
 use Rattle.expr.proofs.NodeForm.{Fill, fill0, fill1, fill2, fill3, own_node}
-use Rattle.expr.proofs.Arities.{arity_is, arity_in, arity_past}
+use Rattle.expr.proofs.Arities.{arity_is}
 use Rattle.expr.proofs.HeadOf.{Headed}
 use Rattle.expr.proofs.Replacing.{length_is}
 use Rattle.expr.proofs.Slices.{part, part_is}
@@ -30,11 +30,11 @@ use Rattle.desugar.specs.Desugar.{desugar}
 use Rattle.desugar.specs.BindingWords.{Bound}
 use Rattle.desugar.specs.WalkWords.{TermAt, TermsAt, Stack, WalkedAs, Ready, ReadyOne, ReadyTwo, ReadyThree, Operator1, Operator2, LeafReady}
 use Rattle.desugar.proofs.Regions.{kept_all}
-use Rattle.desugar.proofs.WalkLaws.{in_part, stack_moved, wider}
+use Rattle.desugar.proofs.WalkLaws.{in_part, stack_moved, text_head, wider}
 
 -- ## The node of a record, by its kind
 
-pub node_at_fact : (r : Record) (k : ℕ) → r.kind ≡ k → node_of r ≡ get_or (nodes r) k (node0 (Plain Zero))
+node_at_fact : (r : Record) (k : ℕ) → r.kind ≡ k → node_of r ≡ get_or (nodes r) k (node0 (Plain Zero))
 node_at_fact r k e = ap (λ n. get_or (nodes r) n (node0 (Plain Zero))) e
 
 pub record UnaryNode (r : Record) : Type 0 where
@@ -67,6 +67,18 @@ module _ (s : List ℕ) (h : Head) where
   binary_kind (inr (inr (inr (inl e)))) = binary_at (record_of s h) Difference (ap kind_number e) refl
   binary_kind (inr (inr (inr (inr (inl e))))) = binary_at (record_of s h) Sequence (ap kind_number e) refl
   binary_kind (inr (inr (inr (inr (inr e))))) = binary_at (record_of s h) LtlUntil (ap kind_number e) refl
+
+  pub negation_kind : h.kind ≡ kind.TestNegation → node_of (record_of s h) ≡ node1 TestNegation
+  negation_kind e = node_at_fact (record_of s h) 16 (ap kind_number e)
+
+  pub if_kind : h.kind ≡ kind.IfThenElse → node_of (record_of s h) ≡ node3 IfThenElse
+  if_kind e = node_at_fact (record_of s h) 17 (ap kind_number e)
+
+  pub let_kind : h.kind ≡ kind.Let → node_of (record_of s h) ≡ node2 (Let h.name)
+  let_kind e = node_at_fact (record_of s h) 18 (ap kind_number e)
+
+  pub alias_kind : h.kind ≡ kind.LetBitRange → node_of (record_of s h) ≡ node1 (LetBitRange h.name h.start h.end)
+  alias_kind e = node_at_fact (record_of s h) 19 (ap kind_number e)
 
 -- a kind that has no children is none of these
 module _ (k : Kind) (not_Union : k ≡ kind.Union → ⊥) (not_Intersect : k ≡ kind.Intersect → ⊥) (not_Xor : k ≡ kind.Xor → ⊥) (not_Difference : k ≡ kind.Difference → ⊥) (not_Sequence : k ≡ kind.Sequence → ⊥) (not_LtlUntil : k ≡ kind.LtlUntil → ⊥) (not_Complement : k ≡ kind.Complement → ⊥) (not_Star : k ≡ kind.Star → ⊥) (not_LtlNext : k ≡ kind.LtlNext → ⊥) (not_TestNegation : k ≡ kind.TestNegation → ⊥) (not_IfThenElse : k ≡ kind.IfThenElse → ⊥) (not_Let : k ≡ kind.Let → ⊥) (not_LetBitRange : k ≡ kind.LetBitRange → ⊥) where
@@ -113,7 +125,7 @@ fill_none fill3 h = absurd (omega (arith, h))
 moved : (P : Expr → (used next : ℕ) → Type 0) (e : Expr) {u u' n n' : ℕ} → u ≡ u' → n ≡ n' → P e u n → P e u' n'
 moved P e {u} {u'} {n} {n'} i j p = subst (λ m. P e m n') i (subst (λ m. P e u m) j p)
 
--- what is told of the node with its children, its bytes and the index behind it, is told of the term e, whose record ends at a byte
+-- what is said of the node with its children, its bytes and the index behind it, is said of the term e, whose record ends at a byte
 module _ (s : List ℕ) (from l place : ℕ) (P : Expr → (used next : ℕ) → Type 0) where
   one_filled : {f : Expr → Expr} {es : List Expr} {e : Expr} → Fill (node1 f) es e → TermsAt s from l (place + 1) es
       → from + length (encode_all es) ≡ length (encode e) → 1 + records_all es ≡ records e
@@ -157,7 +169,7 @@ module _ {s : List ℕ} {levels place : ℕ} (e : Expr) (t : TermAt s levels pla
   pub used_is : h.size + length (encode_all (kids e)) ≡ length (encode e)
   used_is = omega (arith, k.size, length_is e)
 
-  -- what is told of its node with the children behind its record is told of the term
+  -- what is said of its node with the children behind its record is said of the term
   module _ (P : Expr → (used next : ℕ) → Type 0) where
     pub one_kid : {f : Expr → Expr} → node_of (record_of s h) ≡ node1 f
         → ((b : Expr) → TermsAt s h.size (levels - 1) (place + 1) (b ∷ []) → P (f b) (h.size + length (encode b)) (place + 1 + records b))
@@ -200,8 +212,12 @@ from_part {s} {at} {n} h t =
 pub record_inside : (s : List ℕ) (at : ℕ) {e : Expr} {more : List ℕ} {h : Head} → at ≤ length s → Headed (part at s) e more h → at + h.size ≤ length s
 record_inside s at low k = omega (arith, low, k.inside, ap length (part_is at s), length-drop at s)
 
+-- h was read there
 module _ {s xs : List ℕ} {at levels last top a : ℕ} (place : ℕ) (q : Ready s at levels place last top a xs) {h : Head}
-    (k : Headed (part at s) q.term q.text.more h) where
+    (found : RecordFound (drop at s) (Ok h)) where
+  abbrev k : Headed (part at s) q.term q.text.more h
+  k = text_head s at q.text found
+
   abbrev pub node : Node
   node = node_of (record_of (part at s) h)
 
@@ -217,19 +233,19 @@ module _ {s xs : List ℕ} {at levels last top a : ℕ} (place : ℕ) (q : Ready
   pub kids_stack : Stack xs last top a (levels - 1 + 1) q.env
   kids_stack = stack_moved q.stack (kept_all last xs) (omega arith) q.stack.below (omega (arith, some_left))
 
-  -- what is told, with bytes counted from the term's first
-  abbrev Told : ℕ → List ℕ → Result Walked Refused → Expr → ℕ → ℕ → Type 0
-  Told l ys r e used next = WalkedAs (desugar q.env e place (left a)) (at + used) next top a l xs ys r
+  -- what is said, with bytes counted from the term's first
+  abbrev WalkedTo : ℕ → List ℕ → Result Walked Refused → Expr → ℕ → ℕ → Type 0
+  WalkedTo l ys r e used next = WalkedAs (desugar q.env e place (left a)) (at + used) next top a l xs ys r
 
   abbrev Term : List ℕ → Result Walked Refused → Type 0
-  Term ys r = Told levels ys r e (length (encode e)) (place + records e)
+  Term ys r = WalkedTo levels ys r e (length (encode e)) (place + records e)
 
-  deeper : (ys : List ℕ) (r : Result Walked Refused) → Told (levels - 1 + 1) ys r e (length (encode e)) (place + records e) → Term ys r
-  deeper ys r = subst (λ l. Told l ys r e (length (encode e)) (place + records e)) (omega (arith, some_left))
+  deeper : (ys : List ℕ) (r : Result Walked Refused) → WalkedTo (levels - 1 + 1) ys r e (length (encode e)) (place + records e) → Term ys r
+  deeper ys r = subst (λ l. WalkedTo l ys r e (length (encode e)) (place + records e)) (omega (arith, some_left))
 
   -- bytes that are counted from the front, counted from the term's first
   counted : (f : Expr) (ys : List ℕ) (r : Result Walked Refused) (u next : ℕ)
-      → WalkedAs (desugar q.env f place (left a)) (at + h.size + u) next top a (levels - 1 + 1) xs ys r → Told (levels - 1 + 1) ys r f (h.size + u) next
+      → WalkedAs (desugar q.env f place (left a)) (at + h.size + u) next top a (levels - 1 + 1) xs ys r → WalkedTo (levels - 1 + 1) ys r f (h.size + u) next
   counted f ys r u next = subst (λ n. WalkedAs (desugar q.env f place (left a)) n next top a (levels - 1 + 1) xs ys r) (omega arith)
 
   abbrev one_ready : (b : Expr) → TermsAt (part at s) h.size (levels - 1) (place + 1) (b ∷ []) → ReadyOne s (at + h.size) (levels - 1) place last top a xs
@@ -256,7 +272,7 @@ module _ {s xs : List ℕ} {at levels last top a : ℕ} (place : ℕ) (q : Ready
       → WalkedAs (desugar p.env (f p.first) place (left a)) (at + h.size + length (encode p.first)) (place + 1 + records p.first) top a (levels - 1 + 1) xs ys r)
       → Term ys r
   one_done {f} ys r n v =
-      deeper ys r (one_kid e text k (Told (levels - 1 + 1) ys r) n (λ b t.
+      deeper ys r (one_kid e text k (WalkedTo (levels - 1 + 1) ys r) n (λ b t.
       counted (f b) ys r (length (encode b)) (place + 1 + records b) (v (one_ready b t))))
 
   pub two_done : {f : Expr → Expr → Expr} (ys : List ℕ) (r : Result Walked Refused) → node ≡ node2 f
@@ -265,7 +281,7 @@ module _ {s xs : List ℕ} {at levels last top a : ℕ} (place : ℕ) (q : Ready
       (place + 1 + records p.first + records p.second) top a (levels - 1 + 1) xs ys r)
       → Term ys r
   two_done {f} ys r n v =
-      deeper ys r (two_kids e text k (Told (levels - 1 + 1) ys r) n (λ b c t.
+      deeper ys r (two_kids e text k (WalkedTo (levels - 1 + 1) ys r) n (λ b c t.
       counted (f b c) ys r (length (encode_all (b ∷ c ∷ []))) (place + 1 + records b + records c) (v (two_ready b c t))))
 
   pub three_done : {f : Expr → Expr → Expr → Expr} (ys : List ℕ) (r : Result Walked Refused) → node ≡ node3 f
@@ -275,7 +291,7 @@ module _ {s xs : List ℕ} {at levels last top a : ℕ} (place : ℕ) (q : Ready
       (place + 1 + records p.first + records p.second + records p.third) top a (levels - 1 + 1) xs ys r)
       → Term ys r
   three_done {f} ys r n v =
-      deeper ys r (three_kids e text k (Told (levels - 1 + 1) ys r) n (λ b c d t.
+      deeper ys r (three_kids e text k (WalkedTo (levels - 1 + 1) ys r) n (λ b c d t.
       counted (f b c d) ys r (length (encode_all (b ∷ c ∷ d ∷ []))) (place + 1 + records b + records c + records d) (v (three_ready b c d t))))
 
   -- ## A leaf

@@ -139,11 +139,11 @@ module _ (kinds : ℕ → Bool) (all : List Core → Bool) (empty : all [] ≡ t
   kinds_of {i = i} {n = n} c h = of_kinds n i (c ∷ []) (omega (arith, h.count)) (moved h.holds refl (sym (append-nil (words c))))
 
 -- from record j on: its kind, and the records behind it
-pub kinds_from : (kinds : ℕ → Bool) (xs : List ℕ) (at n j : ℕ) → j < n → {b : Bool} → b ≡ kinds (get_or xs (at + 3 * j) 0)
-    → all_kinds kinds xs (at + 3 * j) (n - j) ≡ (b && all_kinds kinds xs (at + 3 * (j + 1)) (n - (j + 1)))
-kinds_from kinds xs at n j l {b} e =
+pub kinds_from : (kinds : ℕ → Bool) (xs : List ℕ) (n j : ℕ) → j < n → {b : Bool} → b ≡ kinds (get_or xs (3 * j) 0)
+    → all_kinds kinds xs (3 * j) (n - j) ≡ (b && all_kinds kinds xs (3 * (j + 1)) (n - (j + 1)))
+kinds_from kinds xs n j l {b} e =
     let count : n - j ≡ suc (n - (j + 1)) = omega arith in
-    let place : at + 3 * j + 3 ≡ at + 3 * (j + 1) = omega arith in
+    let place : 3 * j + 3 ≡ 3 * (j + 1) = omega arith in
     rw count (λ i. sym e i && all_kinds kinds xs (place i) (n - (j + 1)))
 
 -- ## The test fragment

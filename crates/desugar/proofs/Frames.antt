@@ -3,6 +3,9 @@ use mathlib.Core.Path.{◌≡◌, refl, sym, ap, subst, ◌∙◌}
 use mathlib.Core.Bool.{Bool, true, false, cond, ◌&&◌, false≢true, true≢false}
 use mathlib.Core.Option.{Option, none, some}
 use mathlib.Core.List.{List, [], ◌∷◌}
+use mathlib.Core.HLevel.{×₃_prop}
+use mathlib.Core.Logic.{∥∥₁_elim, ∥∥₁_map}
+use native.Mathlib.Bridge.{le_prop}
 use Rattle.std.specs.Prelude as std
 use Prim.Native.Nat.{ℕ, ◌+◌, ◌-◌, ◌*◌, ◌≤◌, ◌<◌}
 use native.Mathlib.Omega.{arith}
@@ -14,9 +17,10 @@ use Rattle.literals.proofs.Logic.{and_left, and_right}
 use Rattle.expr.specs.Terms.{Core}
 use Rattle.desugar.specs.Bindings.{Env, variable, range, lookup_variable, lookup_alias}
 use Rattle.desugar.specs.Memory.{Kept, Lies}
-use Rattle.desugar.specs.BindingWords.{Frame, FrameRoom, VariableFrame, Bound, VariableEnd, AliasEnd, Ends, CoreAt, VariableFound, fields_pair}
-use Rattle.desugar.specs.declared.Fields.{Fields}
-use Rattle.desugar.specs.declared.bindings.Region.{Region}
+use Rattle.desugar.specs.BindingWords.{AnyBound, Frame, FrameRoom, VariableFrame, Bound, frame_number, VariableEnd, AliasEnd, Ends, VariableFound, fields_pair}
+use Rattle.desugar.specs.declared.bindings.FrameKind.{FrameKind}
+use Rattle.desugar.specs.declared.bindings.FrameKind.TheVariants.{Variable, Alias}
+use Rattle.desugar.specs.declared.memory.Region.{Region}
 use Rattle.desugar.proofs.Regions.{same_at, left, moved, stored, kept_sets, kept_holds, length_words}
 
 -- ## What is kept below an index
@@ -24,7 +28,7 @@ use Rattle.desugar.proofs.Regions.{same_at, left, moved, stored, kept_sets, kept
 pub lies_kept : {n : ℕ} {xs ys : List ℕ} {at count : ℕ} {c : Core} → Kept n xs ys → at + 3 * count ≤ n → Lies xs at count c → Lies ys at count c
 lies_kept {c = c} k h l = record { holds = kept_holds k (omega (arith, length_words c, l.count)) l.holds; count = l.count }
 
-pub frame_kept : {n : ℕ} {xs ys : List ℕ} {last kind x a b : ℕ} → Kept n xs ys → last ≤ n → Frame xs last kind x a b → Frame ys last kind x a b
+pub frame_kept : {n : ℕ} {xs ys : List ℕ} {last : ℕ} {kind : FrameKind} {x a b : ℕ} → Kept n xs ys → last ≤ n → Frame xs last kind x a b → Frame ys last kind x a b
 frame_kept {last = last} k h f = record {
   deep = f.deep;
   inside = omega (arith, f.inside, k.long);
@@ -54,9 +58,9 @@ bound_kept {xs = xs} {ys = ys} (range x s e ∷ env) {last} k h b = (
 
 -- ## A frame more
 
-module _ (xs : List ℕ) (top kind x a b last : ℕ) (fits : top + 5 ≤ length xs) (above : last ≤ top) where
+module _ (xs : List ℕ) (top : ℕ) (kind : FrameKind) (x a b last : ℕ) (fits : top + 5 ≤ length xs) (above : last ≤ top) where
   abbrev frame : List ℕ
-  frame = kind ∷ x ∷ a ∷ b ∷ last ∷ []
+  frame = frame_number kind ∷ x ∷ a ∷ b ∷ last ∷ []
 
   abbrev pub pushed : List ℕ
   pushed = sets xs top frame
@@ -71,7 +75,7 @@ module _ (xs : List ℕ) (top kind x a b last : ℕ) (fits : top + 5 ≤ length 
   pushed_frame = record {
     deep = omega arith;
     inside = omega (arith, pushed_kept.long);
-    holds = moved (left (kind ∷ x ∷ a ∷ b ∷ []) (last ∷ []) (stored xs top frame fits)) (omega arith) refl;
+    holds = moved (left (frame_number kind ∷ x ∷ a ∷ b ∷ []) (last ∷ []) (stored xs top frame fits)) (omega arith) refl;
     falls = omega (arith, pushed_last);
   }
 
@@ -80,7 +84,7 @@ module _ (xs : List ℕ) (top kind x a b last : ℕ) (fits : top + 5 ≤ length 
   pushed_bound env h = subst (λ m. Bound pushed m env) (sym pushed_last) (bound_kept env pushed_kept above h)
 
 -- the same, of memory that is known to be so
-module _ (xs ys : List ℕ) (last top r kind x a b : ℕ) (p : FrameRoom xs last top) (e : r ≡ top + 5) (f : ys ≡ sets xs top (kind ∷ x ∷ a ∷ b ∷ last ∷ [])) where
+module _ (xs ys : List ℕ) (last top r : ℕ) (kind : FrameKind) (x a b : ℕ) (p : FrameRoom xs last top) (e : r ≡ top + 5) (f : ys ≡ sets xs top (frame_number kind ∷ x ∷ a ∷ b ∷ last ∷ [])) where
   abbrev after : List ℕ
   after = pushed xs top kind x a b last p.room p.above
 
@@ -99,102 +103,134 @@ module _ (xs ys : List ℕ) (last top r kind x a b : ℕ) (p : FrameRoom xs last
 -- ## The search
 
 -- a frame ends at an index above 0
-pub frame_there : (xs : List ℕ) (last : ℕ) (env : Env Core) → Bound xs last env → 0 < last → (5 ≤ last) × (last ≤ length xs) × (get_or xs (last - 1) 0 + 5 ≤ last)
+frame_there : (xs : List ℕ) (last : ℕ) (env : Env Core) → Bound xs last env → 0 < last → (5 ≤ last) × (last ≤ length xs) × (get_or xs (last - 1) 0 + 5 ≤ last)
 frame_there xs last [] b h = absurd (omega (arith, b))
 frame_there xs last (variable x c ∷ env) b h = (b.0.frame.deep, b.0.frame.inside, b.0.frame.falls)
 frame_there xs last (range x s e ∷ env) b h = (b.0.deep, b.0.inside, b.0.falls)
 
+-- the same, where there are any bindings
+pub any_frame : {xs : List ℕ} {last : ℕ} → ∥ AnyBound xs last ∥₁ → 0 < last → (5 ≤ last) × (last ≤ length xs) × (get_or xs (last - 1) 0 + 5 ≤ last)
+any_frame {xs} {last} b h = ∥∥₁_elim b (×₃_prop le_prop le_prop le_prop) (λ a. frame_there xs last a.env a.bound h)
+
+any_outer : (xs : List ℕ) (last : ℕ) (env : Env Core) → Bound xs last env → 0 < last → AnyBound xs (get_or xs (last - 1) 0)
+any_outer xs last [] b h = absurd (omega (arith, b))
+any_outer xs last (variable x c ∷ env) b h = record { env = env; bound = b.1 }
+any_outer xs last (range x s e ∷ env) b h = record { env = env; bound = b.1 }
+
+-- the bindings around a frame
+pub outer_bound : {xs : List ℕ} {last : ℕ} → ∥ AnyBound xs last ∥₁ → 0 < last → ∥ AnyBound xs (get_or xs (last - 1) 0) ∥₁
+outer_bound {xs} {last} b h = ∥∥₁_map b (λ a. any_outer xs last a.env a.bound h)
+
 -- a frame's kind and name
-frame_kind : {xs : List ℕ} {last kind x a b : ℕ} → Frame xs last kind x a b → get_or xs (last - 5) 0 ≡ kind
+frame_kind : {xs : List ℕ} {last : ℕ} {kind : FrameKind} {x a b : ℕ} → Frame xs last kind x a b → get_or xs (last - 5) 0 ≡ frame_number kind
 frame_kind {xs} f = same_at xs (omega arith) ∙ f.holds.each 0 (omega arith)
 
-frame_name : {xs : List ℕ} {last kind x a b : ℕ} → Frame xs last kind x a b → get_or xs (last - 4) 0 ≡ x
+frame_name : {xs : List ℕ} {last : ℕ} {kind : FrameKind} {x a b : ℕ} → Frame xs last kind x a b → get_or xs (last - 4) 0 ≡ x
 frame_name {xs} f = same_at xs (omega (arith, f.deep)) ∙ f.holds.each 1 (omega arith)
 
-pub frame_first : {xs : List ℕ} {last kind x a b : ℕ} → Frame xs last kind x a b → get_or xs (last - 3) 0 ≡ a
+pub frame_first : {xs : List ℕ} {last : ℕ} {kind : FrameKind} {x a b : ℕ} → Frame xs last kind x a b → get_or xs (last - 3) 0 ≡ a
 frame_first {xs} f = same_at xs (omega (arith, f.deep)) ∙ f.holds.each 2 (omega arith)
 
-pub frame_second : {xs : List ℕ} {last kind x a b : ℕ} → Frame xs last kind x a b → get_or xs (last - 2) 0 ≡ b
+pub frame_second : {xs : List ℕ} {last : ℕ} {kind : FrameKind} {x a b : ℕ} → Frame xs last kind x a b → get_or xs (last - 2) 0 ≡ b
 frame_second {xs} f = same_at xs (omega (arith, f.deep)) ∙ f.holds.each 3 (omega arith)
 
 -- what is found in some inner bindings that are left is what is found in all
-pub record Passed (xs : List ℕ) (kind x : ℕ) (all : Env Core) (last : ℕ) : Type 0 where
+pub record Passed (xs : List ℕ) (kind : FrameKind) (x : ℕ) (all : Env Core) (last : ℕ) : Type 0 where
   pub env : Env Core
   pub bound : Bound xs last env
   pub gives : (r : std.Option ℕ) → Ends xs kind x env r → Ends xs kind x all r
 
-pub passed_none : {xs : List ℕ} {kind x last : ℕ} (env : Env Core) → Bound xs last env → Passed xs kind x env last
+pub passed_none : {xs : List ℕ} {kind : FrameKind} {x last : ℕ} (env : Env Core) → Bound xs last env → Passed xs kind x env last
 passed_none env b = record { env = env; bound = b; gives = λ r e. e }
 
-pub ends_none : {xs : List ℕ} {kind x last : ℕ} (env : Env Core) → last ≡ 0 → Bound xs last env → Ends xs kind x env std.None
-ends_none [] z b = record { variables = λ k. refl; aliases = λ k. refl }
-ends_none (variable y c ∷ env) z b = absurd (omega (arith, z, b.0.frame.deep))
-ends_none (range y s e ∷ env) z b = absurd (omega (arith, z, b.0.deep))
+pub ends_none : (xs : List ℕ) (kind : FrameKind) (x : ℕ) {last : ℕ} (env : Env Core) → last ≡ 0 → Bound xs last env → Ends xs kind x env std.None
+ends_none xs Variable x [] z b = refl
+ends_none xs Alias x [] z b = refl
+ends_none xs kind x (variable y c ∷ env) z b = absurd (omega (arith, z, b.0.frame.deep))
+ends_none xs kind x (range y s e ∷ env) z b = absurd (omega (arith, z, b.0.deep))
 
-module _ (xs : List ℕ) (kind x last : ℕ) (h : 0 < last) where
-  -- whether the frame is of the kind, and of the name
-  abbrev of_kind : Bool
-  of_kind = eqb (get_or xs (last - 5) 0) kind
+-- a frame whose kind and name were read
+module _ (xs : List ℕ) (x last : ℕ) (h : 0 < last) {k : FrameKind} {n : ℕ}
+    (kinds : (kind : FrameKind) → get_or xs (last - 5) 0 ≡ frame_number kind → k ≡ kind) (name : n ≡ get_or xs (last - 4) 0) where
+  -- whether it is of a kind, and of the name
+  abbrev of_kind : FrameKind → Bool
+  of_kind kind = eqb (frame_number k) (frame_number kind)
 
-  abbrev of_name_fact : Bool
-  of_name_fact = eqb (get_or xs (last - 4) 0) x
+  abbrev of_name : Bool
+  of_name = eqb n x
 
-  abbrev pub here : Bool
-  here = of_kind && of_name_fact
+  abbrev pub here : FrameKind → Bool
+  here kind = of_kind kind && of_name
+
+  module _ {of : FrameKind} {y a b : ℕ} (f : Frame xs last of y a b) where
+    read_kind : frame_number k ≡ frame_number of
+    read_kind = ap frame_number (kinds of (frame_kind f))
+
+    read_name : n ≡ y
+    read_name = name ∙ frame_name f
+
+    here_kind : (kind : FrameKind) → here kind ≡ true → frame_number of ≡ frame_number kind
+    here_kind kind t = sym read_kind ∙ eqb-true (frame_number k) (frame_number kind) (and_left (of_kind kind) of_name t)
+
+    here_name : (kind : FrameKind) → here kind ≡ true → y ≡ x
+    here_name kind t = sym read_name ∙ eqb-true n x (and_right (of_kind kind) of_name t)
+
+    -- a frame of the kind that is another's: its name differs
+    other_name : here of ≡ false → eqb x y ≡ false
+    other_name t =
+        differs (eqb x y) refl
+      where
+        differs : (d : Bool) → eqb x y ≡ d → d ≡ false
+        differs false e = refl
+        differs true e =
+            absurd
+            (false≢true
+            (sym t ∙ ap (λ d. d && of_name) (eq-eqb (frame_number k) (frame_number of) read_kind) ∙ eq-eqb n x (read_name ∙ sym (eqb-true x y e))))
 
   -- the frame that is looked for
-  pub ends_here : (env : Env Core) → Bound xs last env → here ≡ true → Ends xs kind x env (std.Some last)
-  ends_here [] b t = absurd (omega (arith, b))
-  ends_here (variable y c ∷ env) b t =
-      let k : kind ≡ 0 = sym (eqb-true (get_or xs (last - 5) 0) kind (and_left of_kind of_name_fact t)) ∙ frame_kind b.0.frame in
-      let n : y ≡ x = sym (frame_name b.0.frame) ∙ eqb-true (get_or xs (last - 4) 0) x (and_right of_kind of_name_fact t) in
-      record {
-        variables = λ z. subst (λ f. VariableEnd xs x (cond f (some c) (lookup_variable env x)) (std.Some last)) (sym (eq-eqb x y (sym n))) (subst (λ z. VariableFrame xs last z c) n b.0);
-        aliases = λ z. absurd (omega (arith, k, z));
-      }
-  ends_here (range y s e ∷ env) b t =
-      let k : kind ≡ 1 = sym (eqb-true (get_or xs (last - 5) 0) kind (and_left of_kind of_name_fact t)) ∙ frame_kind b.0 in
-      let n : y ≡ x = sym (frame_name b.0) ∙ eqb-true (get_or xs (last - 4) 0) x (and_right of_kind of_name_fact t) in
-      record {
-        variables = λ z. absurd (omega (arith, k, z));
-        aliases = λ z. subst (λ f. AliasEnd xs x (cond f (some (s, e)) (lookup_alias env x)) (std.Some last)) (sym (eq-eqb x y (sym n))) (subst (λ z. Frame xs last 1 z s e) n b.0);
-      }
+  pub ends_here : (kind : FrameKind) (env : Env Core) → Bound xs last env → here kind ≡ true → Ends xs kind x env (std.Some last)
+  ends_here kind [] b t = absurd (omega (arith, b))
+  ends_here Variable (variable y c ∷ env) b t =
+      let e : y ≡ x = here_name b.0.frame Variable t in
+      subst (λ f. VariableEnd xs x (cond f (some c) (lookup_variable env x)) (std.Some last)) (sym (eq-eqb x y (sym e))) (subst (λ z. VariableFrame xs last z c) e b.0)
+  ends_here Alias (variable y c ∷ env) b t =
+      let e : ◌≡◌ {A = ℕ} 0 1 = here_kind b.0.frame Alias t in
+      absurd (omega (arith, e))
+  ends_here Variable (range y s e ∷ env) b t =
+      let e : ◌≡◌ {A = ℕ} 1 0 = here_kind b.0 Variable t in
+      absurd (omega (arith, e))
+  ends_here Alias (range y s e ∷ env) b t =
+      let same : y ≡ x = here_name b.0 Alias t in
+      subst (λ f. AliasEnd xs x (cond f (some (s, e)) (lookup_alias env x)) (std.Some last)) (sym (eq-eqb x y (sym same))) (subst (λ z. Frame xs last Alias z s e) same b.0)
 
-  -- another frame: its kind differs, or its name
-  other : {k y : ℕ} → get_or xs (last - 5) 0 ≡ k → get_or xs (last - 4) 0 ≡ y → here ≡ false → kind ≡ k → eqb x y ≡ false
-  other {k} {y} p q f z =
-      differs (eqb x y) refl
-    where
-      differs : (d : Bool) → eqb x y ≡ d → d ≡ false
-      differs false e = refl
-      differs true e =
-          absurd
-          (false≢true
-          (sym f ∙ ap (λ d. d && eqb (get_or xs (last - 4) 0) x) (eq-eqb (get_or xs (last - 5) 0) kind (p ∙ sym z)) ∙ eq-eqb (get_or xs (last - 4) 0) x (q ∙ sym (eqb-true x y e))))
-
-  pub passed_more : (env : Env Core) → Bound xs last env → here ≡ false → Passed xs kind x env (get_or xs (last - 1) 0)
-  passed_more [] b f = absurd (omega (arith, b))
-  passed_more (variable y c ∷ env) b f = record {
+  passed_more : (kind : FrameKind) (env : Env Core) → Bound xs last env → here kind ≡ false → Passed xs kind x env (get_or xs (last - 1) 0)
+  passed_more kind [] b f = absurd (omega (arith, b))
+  passed_more Variable (variable y c ∷ env) b f = record {
     env = env;
     bound = b.1;
-    gives = λ r e. record {
-      variables = λ z. subst (λ d. VariableEnd xs x (cond d (some c) (lookup_variable env x)) r) (sym (other (frame_kind b.0.frame) (frame_name b.0.frame) f z)) (e.variables z);
-      aliases = e.aliases;
-    };
+    gives = λ r e. subst (λ d. VariableEnd xs x (cond d (some c) (lookup_variable env x)) r) (sym (other_name b.0.frame f)) e;
   }
-  passed_more (range y s t ∷ env) b f = record {
+  passed_more Alias (variable y c ∷ env) b f = record { env = env; bound = b.1; gives = λ r e. e }
+  passed_more Variable (range y s t ∷ env) b f = record { env = env; bound = b.1; gives = λ r e. e }
+  passed_more Alias (range y s t ∷ env) b f = record {
     env = env;
     bound = b.1;
-    gives = λ r e. record {
-      variables = e.variables;
-      aliases = λ z. subst (λ d. AliasEnd xs x (cond d (some (s, t)) (lookup_alias env x)) r) (sym (other (frame_kind b.0) (frame_name b.0) f z)) (e.aliases z);
-    };
+    gives = λ r e. subst (λ d. AliasEnd xs x (cond d (some (s, t)) (lookup_alias env x)) r) (sym (other_name b.0 f)) e;
   }
 
-  pub passed_then : {all : Env Core} → Passed xs kind x all last → here ≡ false → Passed xs kind x all (get_or xs (last - 1) 0)
-  passed_then p f =
-      let q = passed_more p.env p.bound f in
+  pub passed_then : {kind : FrameKind} {all : Env Core} → Passed xs kind x all last → here kind ≡ false → Passed xs kind x all (get_or xs (last - 1) 0)
+  passed_then {kind} p f =
+      let q = passed_more kind p.env p.bound f in
       record { env = q.env; bound = q.bound; gives = λ r e. p.gives r (q.gives r e) }
+
+-- ## The same bindings in memory that is known to be so
+
+pub bound_same : {xs ys : List ℕ} {last inner : ℕ} (env : Env Core) → ys ≡ xs → inner ≡ last → Bound xs last env → Bound ys inner env
+bound_same {xs} {ys} {last} {inner} env e f b = subst (λ l. Bound l inner env) (sym e) (subst (λ n. Bound xs n env) (sym f) b)
+
+pub found_same : {xs ys : List ℕ} {last inner : ℕ} (o : Option Core) (r : std.Option Region) → ys ≡ xs → inner ≡ last
+    → VariableFound ys inner o r → VariableFound xs last o r
+found_same {xs} {ys} {last} {inner} o r e f v = subst (λ l. VariableFound l last o r) e (subst (λ n. VariableFound ys n o r) f v)
 
 -- ## What is read of a frame that was found
 
@@ -206,13 +242,6 @@ some_none e = true≢false (ap is_there e)
     is_there std.None = false
 
 module _ (xs : List ℕ) (x last : ℕ) (o : Option Core) (e : VariableEnd xs x o (std.Some last)) where
-  pub variable_there : (5 ≤ last) × (last ≤ length xs)
-  variable_there = go o e
-    where
-      go : (o : Option Core) → VariableEnd xs x o (std.Some last) → (5 ≤ last) × (last ≤ length xs)
-      go none e = absurd (some_none e)
-      go (some c) e = (e.frame.deep, e.frame.inside)
-
   pub variable_found : (top : ℕ) → last ≤ top → (at count : ℕ) → at ≡ get_or xs (last - 3) 0 → count ≡ get_or xs (last - 2) 0
       → VariableFound xs top o (std.Some (record { at = at; count = count }))
   variable_found top h at count p q = go o e
@@ -225,13 +254,6 @@ module _ (xs : List ℕ) (x last : ℕ) (o : Option Core) (e : VariableEnd xs x 
           record { lies = subst (λ n. Lies xs at n c) second (subst (λ m. Lies xs m e.count c) first e.lies); below = omega (arith, e.below, h) }
 
 module _ (xs : List ℕ) (x last : ℕ) (o : Option (ℕ × ℕ)) (e : AliasEnd xs x o (std.Some last)) where
-  pub alias_there : (5 ≤ last) × (last ≤ length xs)
-  alias_there = go o e
-    where
-      go : (o : Option (ℕ × ℕ)) → AliasEnd xs x o (std.Some last) → (5 ≤ last) × (last ≤ length xs)
-      go none e = absurd (some_none e)
-      go (some p) e = (e.deep, e.inside)
-
   pub alias_found : fields_pair (std.Some (record { start = get_or xs (last - 3) 0; end = get_or xs (last - 2) 0 })) ≡ o
   alias_found = go o e
     where

@@ -4,38 +4,37 @@ use mathlib.Core.Option.{Option, none, some}
 use mathlib.Core.List.{List, [], ◌∷◌}
 use Prim.Native.Nat.{ℕ, ◌+◌, ◌-◌, ◌*◌, ◌≤◌, ◌<◌}
 use native.Mathlib.Omega.{arith}
-use borrow.Author.Tests.{le-leb, lt-leb, ne_eqb}
+use borrow.Author.Tests.{le-leb, lt-leb}
 use lib.Dec.{eqb, leb}
 use lib.ListN.{length, length-drop, take}
 use lib.Seq.{length-take-le, sets}
 use Rattle.std.specs.Prelude as std
 use Rattle.literals.specs.Results.{literal_bits}
 use Rattle.expr.specs.Kinds.{kind_number, pattern_number}
-use Rattle.desugar.specs.declared.ranged.Use as read
-use Rattle.desugar.specs.declared.bindings.Region.{Region}
+use Rattle.desugar.specs.declared.uses.Use as read
+use Rattle.desugar.specs.declared.memory.Region.{Region}
 use mathlib.Core.Bool.{Bool, true, false, cond, ◌&&◌, true≢false, false≢true}
 use Rattle.desugar.proofs.Frames.{some_none}
 use Rattle.std.specs.Prelude.{Result, Ok, Err}
 use Rattle.refusals.specs.declared.Refused.{Refused}
-use Rattle.desugar.specs.declared.went.Walked.{Walked}
+use Rattle.desugar.specs.declared.operands.Walked.{Walked}
 use Rattle.literals.proofs.Bytes.{length_unpack}
 use Rattle.literals.specs.Bits.{Bits, bit, unpack}
 use Rattle.literals.specs.Reading.{bytes_for}
 use Rattle.expr.specs.Answers.{Answer, and_then, need, ok, refuse}
 use Rattle.expr.specs.Terms.{Alias, Assigns, Core, Direct, Matches, Name, Ranged, Tests, Use, Var, Where, leaf, size}
 use Rattle.expr.specs.Records.{Record}
-use Rattle.expr.specs.Results.{HeadInside, record_of}
+use Rattle.expr.specs.Results.{record_of}
 use Rattle.expr.specs.declared.records.Head.{Head}
 use Rattle.expr.proofs.Slices.{part, part_is}
 use Rattle.desugar.specs.Bindings.{Env, find_range, lookup_alias, lookup_variable}
 use Rattle.desugar.specs.Meter.{Meter, ◌>>=◌, drawing, left, lift}
 use Rattle.desugar.specs.Rules.{known_range, literal_rule, range_rule, use_rule}
-use Rattle.desugar.specs.Leaves.{use_core}
 use Rattle.desugar.specs.Desugar.{desugar}
-use Rattle.desugar.specs.Memory.{Holds, Kept, Lies, words}
+use Rattle.desugar.specs.Memory.{Holds, Kept, words}
 use Rattle.desugar.specs.BindingWords.{CoreAt, VariableFound}
-use Rattle.desugar.specs.WalkWords.{Came, WalkedAs, use_of, where_of}
-use Rattle.desugar.specs.RangedWords.{UseIn, is_direct, atom_of, judged_range, record_in, rule_answer, use_drawn}
+use Rattle.desugar.specs.WalkWords.{WalkedCore, WalkedAs, use_of, where_of}
+use Rattle.desugar.specs.RangedWords.{UseIn, is_direct, atom_of, judged_range, record_in, use_drawn}
 use Rattle.desugar.proofs.Regions.{kept_sets, length_words, stored}
 use Rattle.desugar.proofs.LeafKinds.{kinds_in, of}
 
@@ -45,9 +44,9 @@ pub same_walk : {x y : Answer (Core × Meter)} (used next top allowance levels :
     → x ≡ y → WalkedAs y used next top allowance levels xs xs' r → WalkedAs x used next top allowance levels xs xs' r
 same_walk used next top allowance levels xs xs' r e w = subst (λ z. WalkedAs z used next top allowance levels xs xs' r) (sym e) w
 
-pub same_came : {x y : Answer (Core × Meter)} {used next top allowance levels : ℕ} {xs xs' : List ℕ} {w : Walked}
-    → x ≡ y → Came y used next top allowance levels xs xs' w → Came x used next top allowance levels xs xs' w
-same_came {used = used} {next} {top} {allowance} {levels} {xs} {xs'} {w} e c = subst (λ z. Came z used next top allowance levels xs xs' w) (sym e) c
+pub same_core : {x y : Answer (Core × Meter)} {used next top allowance levels : ℕ} {xs xs' : List ℕ} {w : Walked}
+    → x ≡ y → WalkedCore y used next top allowance levels xs xs' w → WalkedCore x used next top allowance levels xs xs' w
+same_core {used = used} {next} {top} {allowance} {levels} {xs} {xs'} {w} e c = subst (λ z. WalkedCore z used next top allowance levels xs xs' w) (sym e) c
 
 module _ (c : Core) (at allowance : ℕ) where
   pub too_large : allowance < size c → drawing (size c) at c (left allowance) ≡ refuse 24 at
@@ -57,9 +56,9 @@ module _ (c : Core) (at allowance : ℕ) where
     drawn_is : drawing (size c) at c (left allowance) ≡ ok (c, left (allowance - n))
     drawn_is = rw (le-leb (size c) allowance (omega arith)) (ap (λ m. ok (c, left (allowance - m))) (sym count))
 
-    pub came : (used next top : ℕ) (xs xs' : List ℕ) → Holds xs' top (words c) → Kept top xs xs'
-        → Came (drawing (size c) at c (left allowance)) used next top allowance 0 xs xs' (record { used = used; next = next; at = top; count = n; left = allowance - n })
-    came used next top xs xs' h k = record {
+    pub walked : (used next top : ℕ) (xs xs' : List ℕ) → Holds xs' top (words c) → Kept top xs xs'
+        → WalkedCore (drawing (size c) at c (left allowance)) used next top allowance 0 xs xs' (record { used = used; next = next; core = record { at = top; count = n }; left = allowance - n })
+    walked used next top xs xs' h k = record {
       core = c;
       is = drawn_is;
       used_is = refl;
@@ -71,10 +70,10 @@ module _ (c : Core) (at allowance : ℕ) where
       drawn = omega arith;
     }
 
-    pub came_stored : (used next top : ℕ) (xs xs' : List ℕ) → top + 3 * allowance ≤ length xs → xs' ≡ sets xs top (words c)
-        → Came (drawing (size c) at c (left allowance)) used next top allowance 0 xs xs' (record { used = used; next = next; at = top; count = n; left = allowance - n })
-    came_stored used next top xs xs' room e =
-        came used next top xs xs'
+    pub walked_stored : (used next top : ℕ) (xs xs' : List ℕ) → top + 3 * allowance ≤ length xs → xs' ≡ sets xs top (words c)
+        → WalkedCore (drawing (size c) at c (left allowance)) used next top allowance 0 xs xs' (record { used = used; next = next; core = record { at = top; count = n }; left = allowance - n })
+    walked_stored used next top xs xs' room e =
+        walked used next top xs xs'
         (subst (λ (l : List ℕ). Holds l top (words c)) (sym e) (stored xs top (words c) (omega (arith, length_words c))))
         (subst (λ (l : List ℕ). Kept top xs l) (sym e) (kept_sets top xs top (words c) (omega arith)))
 
@@ -163,13 +162,9 @@ module _ (env : Env Core) (w : Where) (u : Use) (at : ℕ) where
       go (some p) h = after p (range_rule w u p at) refl h
       go none h = let z : ◌≡◌ {A = ℕ} 1 0 = ap is_refusal h in absurd (omega arith)
 
--- n fields from s up to e
-pub fields_drawn : (u : Use) (s e n at : ℕ) (k : Meter) → n ≡ e - s → use_drawn u (s, e) at k ≡ drawing (size (use_core u s n)) at (use_core u s n) k
-fields_drawn u s e n at k f = ap (λ m. drawing (size (use_core u s m)) at (use_core u s m) k) (sym f)
-
 -- ## A record's literals
 
-whole : (s : List ℕ) (at bits : ℕ) → at + bytes_for bits ≤ length s → length (take bits (unpack (part at s))) ≡ bits
+pub whole : (s : List ℕ) (at bits : ℕ) → at + bytes_for bits ≤ length s → length (take bits (unpack (part at s))) ≡ bits
 whole s at bits h =
     length-take-le bits (unpack (part at s)) (omega (arith, length_unpack (part at s), ap length (part_is at s), length-drop at s))
 
@@ -200,9 +195,9 @@ rule_same h g k e r at =
     (use_direct (where_of h) (where_of g) (use_of g) (r.1 - r.0) at (direct_is h ∙ ap (λ n. leb 23 n && leb n 25) k ∙ sym (direct_is g)))
 
 -- a use whose literals are parts of the bytes s
-pub use_found : (s : List ℕ) (h : Head) (u : read.Use) → HeadInside s (Ok h) → u.kind ≡ h.kind → u.pattern ≡ h.pattern → u.number ≡ h.number
+pub use_found : (s : List ℕ) (h : Head) (u : read.Use) → u.kind ≡ h.kind → u.pattern ≡ h.pattern → u.number ≡ h.number
     → u.a.len ≡ h.a.bits → u.a.bytes.now ≡ part h.a.at s → u.b.len ≡ h.b.bits → u.b.bytes.now ≡ part h.b.at s → UseIn s h u
-use_found s h u i k p n al ab bl bb =
+use_found s h u k p n al ab bl bb =
     let first : literal_bits u.a ≡ (record_of s h).lit_a = λ j. take (al j) (unpack ((ab ∙ part_is h.a.at s) j)) in
     let second : literal_bits u.b ≡ (record_of s h).lit_b = λ j. take (bl j) (unpack ((bb ∙ part_is h.b.at s) j)) in
     let same : use_of (record_in u) ≡ use_of (record_of s h) =
@@ -217,10 +212,6 @@ use_found s h u i k p n al ab bl bb =
       lit_b = second j;
     }) in
     record {
-      whole = record {
-        first = (λ j. length (take (al j) (unpack (ab j)))) ∙ whole s h.a.at h.a.bits i.2 ∙ sym al;
-        second = (λ j. length (take (bl j) (unpack (bb j)))) ∙ whole s h.b.at h.b.bits i.3 ∙ sym bl;
-      };
       same = same;
       rule = rule_same (record_in u) (record_of s h) (ap kind_number k) same;
     }

@@ -113,24 +113,24 @@ op_size (two o a b) k = omega (arith, size_pos a)
 
 -- ## A turn of the backward pass, at record j
 
-module _ {xs₀ xs : List ℕ} (p : Places) (j : ℕ) (room : p.notes + p.n ≤ length xs₀) (kept : Kept p.notes xs₀ xs) (l : j < p.n) where
-  module _ (t : Core) (lies : Lies xs₀ p.at p.n t) (test : is_test t ≡ true) (done : Holds xs (p.notes + suc j) (notes_all (forest_at (suc j) (t ∷ [])))) where
-    spot : At xs₀ (p.at + 3 * j) j t
+module _ {xs₀ xs : List ℕ} (p : Places) (j : ℕ) (room : p.notes + p.core.count ≤ length xs₀) (kept : Kept p.notes xs₀ xs) (l : j < p.core.count) where
+  module _ (t : Core) (lies : Lies xs₀ p.core.at p.core.count t) (test : is_test t ≡ true) (done : Holds xs (p.notes + suc j) (notes_all (forest_at (suc j) (t ∷ [])))) where
+    spot : At xs₀ (p.core.at + 3 * j) j t
     spot = at t lies j l
 
     is_test_fact : is_test spot.core ≡ true
     is_test_fact = and_left (is_test spot.core) (all_test spot.others) (ap all_test (sym spot.is) ∙ tests_at j (t ∷ []) (ap (λ (b : Bool). b && true) test))
 
-    is_kind : get_or xs (p.at + 3 * j) 0 ≡ core_kind spot.core
-    is_kind = kept.each (p.at + 3 * j) (omega (arith, p.notes_at)) ∙ spot.spot.kind
+    is_kind : get_or xs (p.core.at + 3 * j) 0 ≡ core_kind spot.core
+    is_kind = kept.each (p.core.at + 3 * j) (omega (arith, p.notes_at)) ∙ spot.spot.kind
 
     after : Holds xs (p.notes + j + 1) (notes_all (operands spot.core ++ spot.others))
     after = moved done (omega arith) (ap (λ (fs : List Core). notes_all (opened fs)) spot.is)
 
-    inner : 7 ≤ core_kind spot.core → suc j < p.n
+    inner : 7 ≤ core_kind spot.core → suc j < p.core.count
     inner k = omega (arith, op_size spot.core k, ap size_all spot.is, size_at j (t ∷ []), lies.count)
 
-    pub turn_can : {a : Note} → (suc j < p.n → note_number a ≡ left_at xs (p.notes + j)) → CanNote xs (p.at + 3 * j) (p.notes + j) a
+    pub turn_can : {a : Note} → (suc j < p.core.count → note_number a ≡ left_at xs (p.notes + j)) → CanNote xs (p.core.at + 3 * j) (p.notes + j) a
     turn_can last = record {
       here_in = omega (arith, kept.long, p.notes_at);
       note_in = omega (arith, kept.long);
@@ -138,18 +138,18 @@ module _ {xs₀ xs : List ℕ} (p : Places) (j : ℕ) (room : p.notes + p.n ≤ 
       first = λ k. last (inner (omega (arith, is_kind)));
     }
 
-    pub turn_notes : Holds (set xs (p.notes + j) (note_at xs (p.at + 3 * j) (p.notes + j))) (p.notes + j) (notes_all (forest_at j (t ∷ [])))
+    pub turn_notes : Holds (set xs (p.notes + j) (note_at xs (p.core.at + 3 * j) (p.notes + j))) (p.notes + j) (notes_all (forest_at j (t ∷ [])))
     turn_notes =
         moved
         (cons
-        (get_or-set_same xs (p.notes + j) (note_at xs (p.at + 3 * j) (p.notes + j)) 0 (omega (arith, kept.long))
-        ∙ note_is xs (p.at + 3 * j) (p.notes + j) spot.core spot.others is_test_fact is_kind after)
-        (over (p.notes + j) (note_at xs (p.at + 3 * j) (p.notes + j) ∷ []) (omega arith) after))
+        (get_or-set_same xs (p.notes + j) (note_at xs (p.core.at + 3 * j) (p.notes + j)) 0 (omega (arith, kept.long))
+        ∙ note_is xs (p.core.at + 3 * j) (p.notes + j) spot.core spot.others is_test_fact is_kind after)
+        (over (p.notes + j) (note_at xs (p.core.at + 3 * j) (p.notes + j) ∷ []) (omega arith) after))
         refl
         (sym (notes_open spot.core spot.others) ∙ ap notes_all (sym spot.is))
 
-  pub turn_kept : Kept p.notes xs₀ (set xs (p.notes + j) (note_at xs (p.at + 3 * j) (p.notes + j)))
-  turn_kept = kept_then kept (kept_sets p.notes xs (p.notes + j) (note_at xs (p.at + 3 * j) (p.notes + j) ∷ []) (omega arith))
+  pub turn_kept : Kept p.notes xs₀ (set xs (p.notes + j) (note_at xs (p.core.at + 3 * j) (p.notes + j)))
+  turn_kept = kept_then kept (kept_sets p.notes xs (p.notes + j) (note_at xs (p.core.at + 3 * j) (p.notes + j) ∷ []) (omega arith))
 
 -- what is noted from k on, where k is no 0
 pub back : {xs : List ℕ} (notes k : ℕ) (t : Core) → 0 < k → Holds xs (notes + k) (notes_all (forest_at k (t ∷ []))) → Holds xs (notes + suc (k - 1)) (notes_all (forest_at (suc (k - 1)) (t ∷ [])))

@@ -9,7 +9,7 @@ use lib.Dec.{leb}
 use lib.ListN.{length}
 use Rattle.expr.specs.Terms.{Core, size}
 use Rattle.std.specs.Prelude.{Option, Some, None, Ok, Err}
-use Rattle.desugar.specs.declared.test_negation.NegationError.TheVariants.{TooLarge}
+use Rattle.desugar.specs.declared.test_negation.NegationError.TheVariants.{NotTest, TooLarge}
 use Rattle.desugar.specs.Negation.{is_test, negate}
 use Rattle.desugar.specs.Memory.{words, Holds, Kept, Lies}
 use Rattle.desugar.specs.declared.test_negation.places.Places.{Places}
@@ -34,6 +34,9 @@ size_is {xs} {c} {out} {limit} {s} h e =
 
 -- ## The three endings
 
+pub no_test : {xs : List ℕ} {c : Core} {at limit : ℕ} → is_test c ≡ false → Negates xs c at limit (Err NotTest)
+no_test e = record { is = rw e refl; holds = λ t l. absurd (true≢false (sym t ∙ e)) }
+
 pub large : {xs : List ℕ} {c : Core} {at out limit : ℕ} {r : Option ℕ} → is_test c ≡ true → Result xs c out limit r → r ≡ None → Negates xs c at limit (Err TooLarge)
 large {xs} {c} {at} {out} {limit} t h e =
     let w : leb (size (negate c)) limit ≡ false = within_large (leb (size (negate c)) limit) (size (negate c)) (sym e ∙ h.is) in
@@ -53,9 +56,9 @@ fits {xs} {xs'} {c} {at} {out} {limit} {s} t h e moved =
 
 -- ## The operand is noted where it lay
 
-pub noted_after : {xs xs' : List ℕ} (p : Places) {b : Bool} → ((c : Core) → Lies xs p.at p.n c → b ≡ is_test c) → b ≡ true
-    → Kept p.notes xs xs' → ((c : Core) → Lies xs p.at p.n c → is_test c ≡ true → Holds xs' p.notes (notes_of c))
-    → (c : Core) → Lies xs p.at p.n c → Noted xs' p c
+pub noted_after : {xs xs' : List ℕ} (p : Places) {b : Bool} → ((c : Core) → Lies xs p.core.at p.core.count c → b ≡ is_test c) → b ≡ true
+    → Kept p.notes xs xs' → ((c : Core) → Lies xs p.core.at p.core.count c → is_test c ≡ true → Holds xs' p.notes (notes_of c))
+    → (c : Core) → Lies xs p.core.at p.core.count c → Noted xs' p c
 noted_after p asked e kept noted c lies = record {
   lies = record { holds = kept_holds kept (omega (arith, length_words c, lies.count, p.notes_at)) lies.holds; count = lies.count };
   test = sym (asked c lies) ∙ e;

@@ -1,14 +1,15 @@
--- The walk over two operands, and over a Let: from what it came to below them to what it comes to.
-use mathlib.Core.Path.{◌≡◌, sym, ap, subst, ◌∙◌}
+-- The walk over two operands, and over a Let: from the cores of its parts to its own.
+use mathlib.Core.Path.{◌≡◌, sym, ap, ◌∙◌}
 use mathlib.Core.Bool.{Bool, true, false, cond, ◌||◌, false≢true}
 use mathlib.Core.List.{List, [], ◌∷◌}
-use Prim.Native.Nat.{ℕ, ◌+◌, ◌*◌, ◌≤◌}
+use Prim.Native.Nat.{ℕ, ◌+◌, ◌-◌, ◌*◌, ◌≤◌}
 use native.Mathlib.Nat.{sub-zero}
 use native.Mathlib.Omega.{arith}
 use lib.ListN.{length, length-append}
-use Rattle.std.specs.Prelude.{Result, Ok, Err}
+use Rattle.std.specs.Prelude.{Result, Ok}
 use Rattle.refusals.specs.declared.Refused.{Refused}
-use Rattle.desugar.specs.declared.went.Walked.{Walked}
+use Rattle.desugar.specs.declared.memory.Region.{Region}
+use Rattle.desugar.specs.declared.operands.Walked.{Walked}
 use Rattle.literals.proofs.Logic.{leb_is}
 use Rattle.expr.specs.Answers.{Answer, ok, refuse, and_then}
 use Rattle.expr.specs.Terms.{Op2, Union, Intersect, Xor, Difference, Sequence, LtlUntil, Core, two, Expr, Binary, Let, Name, op2_kind, records}
@@ -20,7 +21,7 @@ use Rattle.desugar.specs.Negation.{is_one, join, join_draw}
 use Rattle.desugar.specs.Desugar.{desugar}
 use Rattle.desugar.specs.Memory.{Kept, Lies}
 use Rattle.desugar.specs.BindingWords.{Bound, FrameRoom}
-use Rattle.desugar.specs.WalkWords.{TermsAt, Came, WalkedAs, Ready, ReadyTwo, Operator2, drops, JoinRoom}
+use Rattle.desugar.specs.WalkWords.{TermsAt, WalkedCore, WalkedAs, Ready, ReadyTwo, Operator2, drops, JoinRoom}
 use Rattle.desugar.proofs.Regions.{kept_then, kept_less}
 use Rattle.desugar.proofs.Frames.{bound_kept, lies_kept}
 use Rattle.desugar.proofs.WalkLaws.{rest_at, stack_moved, ready_first, lies_inside, Visited, Settled, wider, then_ok, then_refused}
@@ -52,21 +53,24 @@ module _ {s xs : List ℕ} {from l last top a : ℕ} (place : ℕ) (q : ReadyTwo
   abbrev x₁ : Answer (Core × Meter)
   x₁ = desugar q.env q.first (place + 1) (left a)
 
-  abbrev Told : Expr → List ℕ → Result Walked Refused → Type 0
-  Told e ys r =
+  abbrev WalkedTo : Expr → List ℕ → Result Walked Refused → Type 0
+  WalkedTo e ys r =
       WalkedAs (desugar q.env e place (left a)) (from + length (encode_all (q.first ∷ q.second ∷ [])))
       (place + 1 + records q.first + records q.second) top a (l + 1) xs ys r
 
-  -- the first operand's core is settled
-  module _ {w : Walked} {xs₂ : List ℕ} {at : ℕ} (c : Settled x₁ (from + length (encode q.first)) (place + 1 + records q.first) at a xs xs₂ w)
-      (low : top ≤ at) (high : at ≤ top + 7) where
+  -- the first operand's core is settled at an index
+  abbrev pub FirstSettled : ℕ → List ℕ → Walked → Region → Type 0
+  FirstSettled at xs₂ w f = Settled x₁ (from + length (encode q.first)) (place + 1 + records q.first) at a xs xs₂ w f
+
+  -- an operator's, above the room for its record
+  module _ {w : Walked} {f : Region} {xs₂ : List ℕ} (c : FirstSettled (top + 3) xs₂ w f) where
     pub second_text : TermsAt s w.used l w.next (q.second ∷ [])
     second_text = rest_at q.first (q.second ∷ []) q.text c.used_is c.next_is
 
-    abbrev pub second_ready : (to : ℕ) → top ≤ to → to ≤ at + 3 * w.count → Ready s w.used l w.next last to w.left xs₂
+    abbrev pub second_ready : (to : ℕ) → top ≤ to → to ≤ f.at + 3 * f.count → Ready s w.used l w.next last to w.left xs₂
     second_ready to h k =
         ready_first q.second [] second_text
-        (stack_moved q.stack c.kept (omega (arith, q.stack.below)) (omega (arith, q.stack.below)) (omega (arith, c.drawn)))
+        (stack_moved q.stack c.kept (omega (arith, q.stack.below)) (omega (arith, q.stack.below)) (omega (arith, c.drawn, c.at_is)))
 
     abbrev x₂ : Env Core → Answer (Core × Meter)
     x₂ env = desugar env q.second w.next (left w.left)
@@ -90,8 +94,10 @@ module _ {s xs : List ℕ} {from l last top a : ℕ} (place : ℕ) (q : ReadyTwo
         ∙ then_refused _ e
 
     -- the second operand's core, worked out above an index
-    module _ {w₂ : Walked} {xs₃ : List ℕ} {to : ℕ}
-        (d : Came (x₂ q.env) (w.used + length (encode q.second)) (w.next + records q.second) to w.left l xs₂ xs₃ w₂) where
+    abbrev pub SecondWalked : ℕ → List ℕ → Walked → Type 0
+    SecondWalked to xs₃ w₂ = WalkedCore (x₂ q.env) (w.used + length (encode q.second)) (w.next + records q.second) to w.left l xs₂ xs₃ w₂
+
+    module _ {w₂ : Walked} {xs₃ : List ℕ} {to : ℕ} (d : SecondWalked to xs₃ w₂) where
       abbrev used_all : w₂.used ≡ from + length (encode_all (q.first ∷ q.second ∷ []))
       used_all = omega (arith, c.used_is, d.used_is, pair_long q.first q.second)
 
@@ -100,7 +106,7 @@ module _ {s xs : List ℕ} {from l last top a : ℕ} (place : ℕ) (q : ReadyTwo
 
       -- the first is dropped
       pub dropped_done : {kind : ℕ} (k : Operator2 kind) → to ≡ top → drops k.o c.core ≡ true
-          → Told (Binary k.o q.first q.second) xs₃ (Ok w₂)
+          → WalkedTo (Binary k.o q.first q.second) xs₃ (Ok w₂)
       dropped_done k e h =
           let j = join_dropped k.o c.core d.core h in
           record {
@@ -111,53 +117,52 @@ module _ {s xs : List ℕ} {from l last top a : ℕ} (place : ℕ) (q : ReadyTwo
             used_is = used_all;
             next_is = next_all;
             lies = d.lies;
-            kept = kept_then (kept_less low c.kept) (kept_less (omega (arith, e)) d.kept);
+            kept = kept_then (kept_less (omega arith) c.kept) (kept_less (omega (arith, e)) d.kept);
             above = omega (arith, e, d.above);
             reach = omega (arith, e, d.reach, c.drawn);
             drawn = omega (arith, d.drawn, c.drawn);
           }
 
-      pub join_room : at ≡ top + 3 → to ≡ at + 3 * w.count → JoinRoom xs₃ top w.count w₂
-      join_room e h = record { apart = omega (arith, e, h, d.above); room = lies_inside d.lies }
+      pub join_room : to ≡ f.at + 3 * f.count → JoinRoom xs₃ f w₂
+      join_room h = record { low = omega (arith, c.at_is); apart = omega (arith, h, d.above); room = lies_inside d.lies }
 
       -- both are kept, or the second is dropped
-      pub joined_done : {kind : ℕ} (xs₄ : List ℕ) (r : Result Walked Refused) (k : Operator2 kind) → at ≡ top + 3 → to ≡ at + 3 * w.count → drops k.o c.core ≡ false
-          → ((o : Op2) (c d : Core) → op2_kind o ≡ kind → drops o c ≡ false → Lies xs₃ (top + 3) w.count c → Lies xs₃ w₂.at w₂.count d
-          → WalkedAs (drawing (join_draw o c d) place (join o c d) (left w₂.left)) w₂.used w₂.next top (w.count + w₂.count + w₂.left) 0 xs₃ xs₄ r)
-          → Told (Binary k.o q.first q.second) xs₄ r
-      joined_done xs₄ r k e h kept joins =
-          let kept₃ = kept_then (kept_less low c.kept) (kept_less (omega (arith, e, h)) d.kept) in
+      pub joined_done : {kind : ℕ} (xs₄ : List ℕ) (r : Result Walked Refused) (k : Operator2 kind) → to ≡ f.at + 3 * f.count → drops k.o c.core ≡ false
+          → ((o : Op2) (c d : Core) → op2_kind o ≡ kind → drops o c ≡ false → Lies xs₃ f.at f.count c → Lies xs₃ w₂.core.at w₂.core.count d
+          → WalkedAs (drawing (join_draw o c d) place (join o c d) (left w₂.left)) w₂.used w₂.next (f.at - 3) (f.count + w₂.core.count + w₂.left) 0 xs₃ xs₄ r)
+          → WalkedTo (Binary k.o q.first q.second) xs₄ r
+      joined_done xs₄ r k h kept joins =
+          let kept₃ : Kept top xs xs₃ = kept_then (kept_less (omega arith) c.kept) (kept_less (omega (arith, c.at_is, h)) d.kept) in
           wider (desugar q.env (Binary k.o q.first q.second) place (left a))
           (drawing (join_draw k.o c.core d.core) place (join k.o c.core d.core) (left w₂.left))
           (from + length (encode_all (q.first ∷ q.second ∷ []))) w₂.used (place + 1 + records q.first + records q.second) w₂.next
-          top top a (w.count + w₂.count + w₂.left) (l + 1) 0 xs xs₃ xs₄ r
-          (binary_is k.o d.is) used_all next_all (omega arith) (omega (arith, c.drawn, d.drawn)) (omega (arith, c.drawn, d.drawn)) kept₃
-          (joins k.o c.core d.core k.is kept
-          (lies_kept d.kept (omega (arith, e, h)) (subst (λ n. Lies xs₂ n w.count c.core) e c.lies)) d.lies)
+          top (f.at - 3) a (f.count + w₂.core.count + w₂.left) (l + 1) 0 xs xs₃ xs₄ r
+          (binary_is k.o d.is) used_all next_all (omega (arith, c.at_is)) (omega (arith, c.at_is, c.drawn, d.drawn)) (omega (arith, c.drawn, d.drawn)) kept₃
+          (joins k.o c.core d.core k.is kept (lies_kept d.kept (omega (arith, h)) c.lies) d.lies)
 
   -- Let: the definition's core lies at the top, and a frame behind it
-  module _ {w : Walked} {xs₂ : List ℕ} (c : Settled x₁ (from + length (encode q.first)) (place + 1 + records q.first) top a xs xs₂ w) where
+  module _ {w : Walked} {f : Region} {xs₂ : List ℕ} (c : FirstSettled top xs₂ w f) {end : ℕ} (end_is : end ≡ f.at + 3 * f.count) where
     pub bound₂ : Bound xs₂ last q.env
     bound₂ = bound_kept q.env c.kept q.stack.below q.stack.bound
 
-    pub frame_room : FrameRoom xs₂ last (top + 3 * w.count)
+    pub frame_room : FrameRoom xs₂ last end
     frame_room =
         record {
-          above = omega (arith, q.stack.below);
-          room = omega (arith, q.stack.room, c.kept.long, c.drawn);
-          small = omega (arith, q.stack.small, c.drawn);
+          above = omega (arith, q.stack.below, c.at_is);
+          room = omega (arith, q.stack.room, c.kept.long, c.drawn, c.at_is);
+          small = omega (arith, q.stack.small, c.drawn, c.at_is);
         }
 
-    module _ (x : Name) {inner : ℕ} {xs₃ : List ℕ} (top_is : inner ≡ top + 3 * w.count + 5) (kept : Kept (top + 3 * w.count) xs₂ xs₃)
-        (binds : (env : Env Core) (d : Core) → Bound xs₂ last env → Lies xs₂ top w.count d → Bound xs₃ inner (variable x d ∷ env)) where
-      abbrev pub body_ready : Ready s w.used l w.next inner (top + 3 * w.count + 5) w.left xs₃
+    module _ (x : Name) {inner : ℕ} {xs₃ : List ℕ} (top_is : inner ≡ end + 5) (kept : Kept end xs₂ xs₃)
+        (binds : (env : Env Core) (d : Core) → Bound xs₂ last env → Lies xs₂ f.at f.count d → Bound xs₃ inner (variable x d ∷ env)) where
+      abbrev pub body_ready : Ready s w.used l w.next inner (end + 5) w.left xs₃
       body_ready =
           ready_first {env = variable x c.core ∷ q.env} q.second [] (rest_at q.first (q.second ∷ []) q.text c.used_is c.next_is)
           (record {
             bound = binds q.env c.core bound₂ c.lies;
             below = omega (arith, top_is);
-            room = omega (arith, q.stack.room, c.kept.long, kept.long, c.drawn);
-            small = omega (arith, q.stack.small, c.drawn);
+            room = omega (arith, q.stack.room, c.kept.long, kept.long, c.drawn, c.at_is);
+            small = omega (arith, q.stack.small, c.drawn, c.at_is);
           })
 
       abbrev x₃ : Answer (Core × Meter)
@@ -166,11 +171,11 @@ module _ {s xs : List ℕ} {from l last top a : ℕ} (place : ℕ) (q : ReadyTwo
       let_is : desugar q.env (Let x q.first q.second) place (left a) ≡ x₃
       let_is = then_ok _ c.is ∙ ap (λ p. desugar (variable x c.core ∷ q.env) q.second p (left w.left)) (sym c.next_is)
 
-      pub let_done : (xs₄ : List ℕ) (r : Result Walked Refused) → Visited s w.used l w.next inner (top + 3 * w.count + 5) w.left xs₃ xs₄ r
-          → Told (Let x q.first q.second) xs₄ r
+      pub let_done : (xs₄ : List ℕ) (r : Result Walked Refused) → Visited s w.used l w.next inner (end + 5) w.left xs₃ xs₄ r
+          → WalkedTo (Let x q.first q.second) xs₄ r
       let_done xs₄ r v =
           wider (desugar q.env (Let x q.first q.second) place (left a)) x₃ (from + length (encode_all (q.first ∷ q.second ∷ [])))
           (w.used + length (encode q.second)) (place + 1 + records q.first + records q.second) (w.next + records q.second)
-          top (top + 3 * w.count + 5) a w.left (l + 1) l xs xs₃ xs₄ r
-          let_is (omega (arith, c.used_is, pair_long q.first q.second)) (omega (arith, c.next_is)) (omega arith) (omega (arith, c.drawn))
-          (omega (arith, c.drawn)) (kept_then c.kept (kept_less (omega arith) kept)) (v body_ready)
+          top (end + 5) a w.left (l + 1) l xs xs₃ xs₄ r
+          let_is (omega (arith, c.used_is, pair_long q.first q.second)) (omega (arith, c.next_is)) (omega (arith, c.at_is)) (omega (arith, c.drawn, c.at_is))
+          (omega (arith, c.drawn)) (kept_then c.kept (kept_less (omega (arith, c.at_is)) kept)) (v body_ready)

@@ -17,19 +17,19 @@ use Rattle.desugar.specs.NegationRun.{notes_of, Noted, Task, task, emit_all, cor
 use Rattle.desugar.proofs.Regions.{moved, under, stored, none, length_words, size_pos}
 use Rattle.desugar.proofs.Forest.{notes_long}
 
-pub begin : {xs : List ℕ} {t : Core} (p : Places) → p.out + 3 * p.limit ≤ length xs → Noted xs p t → Run (set xs (p.modes + p.n - 1) 0) t p 0 (record { top = p.modes + p.n - 1; made = 0 })
+pub begin : {xs : List ℕ} {t : Core} (p : Places) → p.out + 3 * p.limit ≤ length xs → Noted xs p t → Run (set xs (p.modes + p.core.count - 1) 0) t p 0 (record { top = p.modes + p.core.count - 1; made = 0 })
 begin {xs} {t} p room h =
-    let some : 1 ≤ p.n = omega (arith, h.lies.count, size_pos t) in
+    let some : 1 ≤ p.core.count = omega (arith, h.lies.count, size_pos t) in
     record {
       plan = task Negate t ∷ [];
       test = ap (λ (b : Bool). b && true) h.test;
-      records = moved (under (p.modes + p.n - 1) (0 ∷ []) (omega (arith, length_words t, h.lies.count, p.notes_at, p.modes_at)) h.lies.holds) (omega arith) (sym (append-nil (words t)));
-      noted = moved (under (p.modes + p.n - 1) (0 ∷ []) (omega (arith, notes_long t, h.lies.count, p.modes_at)) h.noted) (omega arith) (sym (append-nil (notes_of t)));
-      stack = stored xs (p.modes + p.n - 1) (0 ∷ []) (omega (arith, p.out_at, room));
+      records = moved (under (p.modes + p.core.count - 1) (0 ∷ []) (omega (arith, length_words t, h.lies.count, p.notes_at, p.modes_at)) h.lies.holds) (omega arith) (sym (append-nil (words t)));
+      noted = moved (under (p.modes + p.core.count - 1) (0 ∷ []) (omega (arith, notes_long t, h.lies.count, p.modes_at)) h.noted) (omega arith) (sym (append-nil (notes_of t)));
+      stack = stored xs (p.modes + p.core.count - 1) (0 ∷ []) (omega (arith, p.out_at, room));
       depth = omega arith;
       left = omega (arith, h.lies.count);
       done = [];
-      written = none (set xs (p.modes + p.n - 1) 0) p.out (omega (arith, length-set xs (p.modes + p.n - 1) 0, room));
+      written = none (set xs (p.modes + p.core.count - 1) 0) p.out (omega (arith, length-set xs (p.modes + p.core.count - 1) 0, room));
       long = refl;
       goal = append-nil (words (negate t));
     }
@@ -38,7 +38,7 @@ no_plan : (plan : List Task) → size_all (cores_of plan) ≡ 0 → emit_all pla
 no_plan [] e = refl
 no_plan (task m c ∷ ts) e = absurd (omega (arith, size_pos c))
 
-module _ {xs : List ℕ} {t : Core} {p : Places} {j : ℕ} {s : Next} (few : s.made ≤ p.limit) (l : p.n ≤ j) (r : Run xs t p j s) where
+module _ {xs : List ℕ} {t : Core} {p : Places} {j : ℕ} {s : Next} (few : s.made ≤ p.limit) (l : p.core.count ≤ j) (r : Run xs t p j s) where
   all_done : r.done ≡ words (negate t)
   all_done = sym (append-nil r.done) ∙ ap (λ (e : List ℕ). r.done ++ e) (sym (no_plan r.plan (omega (arith, r.left)))) ∙ r.goal
 
@@ -57,5 +57,5 @@ too_large {xs} {t} {out} {limit} h = record {
   holds = λ b. absurd (omega arith);
 }
 
-pub some_records : {xs : List ℕ} {p : Places} (t : Core) → Noted xs p t → 1 ≤ p.n
+pub some_records : {xs : List ℕ} {p : Places} (t : Core) → Noted xs p t → 1 ≤ p.core.count
 some_records t h = omega (arith, h.lies.count, size_pos t)

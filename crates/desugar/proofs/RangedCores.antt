@@ -2,26 +2,24 @@
 use mathlib.Core.Path.{◌≡◌, sym, ap, subst, ◌∙◌}
 use mathlib.Core.Logic.{◌⊎◌}
 use mathlib.Core.List.{List}
-use Prim.Native.Nat.{ℕ, ◌+◌, ◌-◌, ◌^◌, ◌≤◌, ◌<◌}
+use Prim.Native.Nat.{ℕ, ◌+◌, ◌-◌, ◌≤◌}
 use native.Mathlib.Omega.{arith}
 use lib.ListN.{length}
 use lib.Seq.{sets}
-use Rattle.desugar.specs.declared.ranged.Use as read
-use Rattle.desugar.specs.declared.Fields.{Fields}
+use Rattle.desugar.specs.declared.judged.JudgedUse.{JudgedUse}
 use Rattle.literals.specs.Patterns.{Pattern}
 use Rattle.expr.specs.Answers.{ok}
 use Rattle.expr.specs.Terms.{Assign, Core, Intersect, Matches, One, Sequence, Test, Use, Where, size}
 use Rattle.expr.specs.Records.{Record}
 use Rattle.expr.specs.Form.{pattern_of}
-use Rattle.expr.specs.declared.records.Head.{Head}
 use Rattle.desugar.specs.Rules.{pattern_rule, use_rule}
 use Rattle.desugar.specs.Leaves.{between, chain, each_bit, masked_tests, use_core}
 use Rattle.desugar.specs.Costs.{between_size, chain_size, clear}
 use Rattle.desugar.specs.LeafWords.{stretch}
 use Rattle.desugar.specs.Memory.{words}
 use Rattle.desugar.specs.WalkWords.{use_of, where_of}
-use Rattle.desugar.specs.RangedWords.{RangeKept, UseKept, record_in}
-use Rattle.desugar.proofs.RuleLaws.{range_kept, literal_kept, exact_kept, cidr_kept, wildcard_kept, values_kept}
+use Rattle.desugar.specs.RangedWords.{record_in}
+use Rattle.desugar.proofs.RuleLaws.{literal_kept, exact_kept, cidr_kept, wildcard_kept, values_kept}
 use Rattle.desugar.proofs.LeafKinds.{kinds_in, of, cidr_is, wildcard_is, values_is, exact_is, literal_use, assigns_is, tests_is}
 use Rattle.desugar.proofs.UseCores.{Leaf, assigns_leaf, tests_leaf, exact_leaf, cidr_leaf, wildcard_leaf, range_leaf}
 
@@ -98,15 +96,11 @@ module _ (h : Record) (w : Where) (n : ℕ) (rule : use_rule w (use_of h) n 0 �
   pub matches_kept : use_of h ≡ Matches (pattern_of h) → pattern_rule (pattern_of h) n 0 ≡ ok tt
   matches_kept e = of_use e
 
--- ## A use that keeps the rules
+-- ## A use of fields, n of them, that keeps the rules
 
--- no rule on fields, n of them, is broken
-pub use_kept : (u : read.Use) (f : Fields) (n : ℕ) → RangeKept u f → n ≡ f.end - f.start → f.end < 2 ^ 32 → UseKept u n
-use_kept u f n k e small =
-    let w = where_of (record_in u) in
-    let v = use_of (record_in u) in
-    record {
-      whole = k.whole;
-      rule = subst (λ (m : ℕ). use_rule w v m 0 ≡ ok tt) (sym e) (range_kept w v f.start f.end k.rule).1;
-      few = omega arith;
-    }
+module _ (j : JudgedUse) {n : ℕ} (e : n ≡ j.fields.end - j.fields.start) where
+  pub use_kept : use_rule (where_of (record_in j.used)) (use_of (record_in j.used)) n 0 ≡ ok tt
+  use_kept = subst (λ (m : ℕ). use_rule (where_of (record_in j.used)) (use_of (record_in j.used)) m 0 ≡ ok tt) (sym e) j.kept
+
+  pub pattern_kept : use_of (record_in j.used) ≡ Matches (pattern_of (record_in j.used)) → pattern_rule (pattern_of (record_in j.used)) n 0 ≡ ok tt
+  pattern_kept k = matches_kept (record_in j.used) (where_of (record_in j.used)) n use_kept k

@@ -18,7 +18,7 @@ use Rattle.expr.specs.Records.{map_of, stands, write_number, write_record}
 use Rattle.expr.specs.Form.{atom_record, encode_core}
 use Rattle.desugar.specs.Memory.{Holds, Lies, words, atom_field, atom_value}
 use Rattle.desugar.specs.CoreBytes.{core_record, CoreShape, record_bytes, records_bytes, Put}
-use Rattle.desugar.proofs.Regions.{same_at, size_pos, head, tail, left, right, moved, sets_append, length_words}
+use Rattle.desugar.proofs.Regions.{same_at, size_pos, head, tail, left, right, moved, sets_append, length_words, slice_lies}
 
 byte_length : (b : Bool) (v : ℕ) → length (cond b (bytes_of 1 v) []) ≡ bit b
 byte_length true v = refl
@@ -110,8 +110,10 @@ core_bytes (two o a b) xs at h =
     index : at + 3 * (1 + size a) ≡ at + 3 + 3 * size a
     index = omega arith
 
-pub lies_bytes : {xs : List ℕ} {at n : ℕ} {c : Core} → Lies xs at n c → records_bytes xs at n ≡ encode_core c
-lies_bytes {xs} {at} {n} {c} l = ap (records_bytes xs at) l.count ∙ core_bytes c xs at l.holds
+pub slice_bytes : {xs : List ℕ} (c : Core) → xs ≡ words c → records_bytes xs 0 (length xs / 3) ≡ encode_core c
+slice_bytes {xs} c e =
+    let l : Lies xs 0 (length xs / 3) c = slice_lies e in
+    ap (records_bytes xs 0) l.count ∙ core_bytes c xs 0 l.holds
 
 -- ## The shape of a core's records
 
@@ -166,8 +168,10 @@ core_shape (two o a b) xs at h (suc j) l =
     shape_moved xs {i = at + 3 + 3 * j} (omega arith)
     (both_shaped xs (at + 3) (size a) (size b) (core_shape a xs (at + 3) (left (words a) (words b) behind)) (core_shape b xs (at + 3 + 3 * size a) second) j (omega arith))
 
-pub lies_shape : {xs : List ℕ} {at n : ℕ} {c : Core} → Lies xs at n c → (j : ℕ) → j < n → ShapeAt xs (at + 3 * j)
-lies_shape {xs} {at} {n} {c} l j h = core_shape c xs at l.holds j (omega (arith, l.count))
+pub slice_shape : {xs : List ℕ} (c : Core) → xs ≡ words c → (j : ℕ) → j < length xs / 3 → ShapeAt xs (3 * j)
+slice_shape {xs} c e j h =
+    let l : Lies xs 0 (length xs / 3) c = slice_lies e in
+    shape_moved xs (zero-add (3 * j)) (core_shape c xs 0 l.holds j (omega (arith, l.count)))
 
 -- a run of stores at the front
 pub sets_front : (vs l : List ℕ) → length vs ≤ length l → sets l 0 vs ≡ vs ++ drop (length vs) l
@@ -245,29 +249,31 @@ put_then {us} {vs} {l} {l'} {l''} {i} {j} {r} p q = record {
 pub put_length : {us l l' : List ℕ} {i r : ℕ} → Put us l i l' r → length l' ≡ length l
 put_length {us} {l} {l'} {i} p = ap length p.written ∙ length-sets l i us
 
-module _ (xs : List ℕ) (at n : ℕ) where
+module _ (xs : List ℕ) (n : ℕ) where
   -- one record more
-  pub records_next : records_bytes xs at (n + 1) ≡ records_bytes xs at n ++ record_bytes xs (at + 3 * n)
-  records_next = ap (records_bytes xs at) (add-one n)
+  pub records_next : records_bytes xs 0 (n + 1) ≡ records_bytes xs 0 n ++ record_bytes xs (3 * n)
+  records_next = ap (records_bytes xs 0) (add-one n) ∙ ap (λ i. records_bytes xs 0 n ++ record_bytes xs i) (zero-add (3 * n))
 
-  pub length_next : length (records_bytes xs at (n + 1)) ≡ length (records_bytes xs at n) + length (record_bytes xs (at + 3 * n))
-  length_next = ap length records_next ∙ length-append (records_bytes xs at n) (record_bytes xs (at + 3 * n))
+  pub length_next : length (records_bytes xs 0 (n + 1)) ≡ length (records_bytes xs 0 n) + length (record_bytes xs (3 * n))
+  length_next = ap length records_next ∙ length-append (records_bytes xs 0 n) (record_bytes xs (3 * n))
 
 -- a record has room where all of them have
-pub records_within : (xs : List ℕ) (at j n : ℕ) → j < n → length (records_bytes xs at j) + length (record_bytes xs (at + 3 * j)) ≤ length (records_bytes xs at n)
-records_within xs at j n l =
+pub records_within : (xs : List ℕ) (j n : ℕ) → j < n → length (records_bytes xs 0 j) + length (record_bytes xs (3 * j)) ≤ length (records_bytes xs 0 n)
+records_within xs j n l =
     let all : j + 1 + (n - (j + 1)) ≡ n = omega arith in
-    omega (arith, length_next xs at j, records_below xs at (j + 1) (n - (j + 1)), ap (λ m. length (records_bytes xs at m)) all)
+    omega (arith, length_next xs j, records_below xs 0 (j + 1) (n - (j + 1)), ap (λ m. length (records_bytes xs 0 m)) all)
 
 -- a byte follows on a record that is not the last
-pub records_before : (xs : List ℕ) (at j n : ℕ) → j + 1 < n → length (records_bytes xs at j) + length (record_bytes xs (at + 3 * j)) < length (records_bytes xs at n)
-records_before xs at j n l =
-    let next = at + 3 * (j + 1) in
-    omega (arith, length_next xs at j, records_within xs at (j + 1) n l, record_length (get_or xs next 0) (get_or xs (next + 1) 0) (get_or xs (next + 2) 0))
+pub records_before : (xs : List ℕ) (j n : ℕ) → j + 1 < n → length (records_bytes xs 0 j) + length (record_bytes xs (3 * j)) < length (records_bytes xs 0 n)
+records_before xs j n l =
+    let next = 3 * (j + 1) in
+    omega (arith, length_next xs j, records_within xs (j + 1) n l, record_length (get_or xs next 0) (get_or xs (next + 1) 0) (get_or xs (next + 2) 0))
 
 -- a core has a record
-pub lies_some : {xs : List ℕ} {at n : ℕ} {c : Core} → Lies xs at n c → 1 ≤ n
-lies_some {c = c} l = omega (arith, l.count, size_pos c)
+pub slice_some : {xs : List ℕ} (c : Core) → xs ≡ words c → 1 ≤ length xs / 3
+slice_some {xs} c e =
+    let l : Lies xs 0 (length xs / 3) c = slice_lies e in
+    omega (arith, l.count, size_pos c)
 
 pub lies_inside : {xs : List ℕ} {at n : ℕ} {c : Core} → Lies xs at n c → at + 3 * n ≤ length xs
 lies_inside {xs} {at} {n} {c} l = omega (arith, l.holds.fits, length_words c, l.count)

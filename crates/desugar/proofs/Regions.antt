@@ -2,15 +2,15 @@
 use mathlib.Core.Path.{◌≡◌, refl, sym, ap, ◌∙◌, subst}
 use mathlib.Core.Bool.{Bool, true, false}
 use mathlib.Core.List.{List, [], ◌∷◌, ◌++◌}
-use Prim.Native.Nat.{ℕ, zero, suc, ◌+◌, ◌-◌, ◌*◌, ◌≤◌, ◌<◌}
-use native.Mathlib.Nat.{not-suc-le-zero, le_of_suc-le-suc, add-suc, add-zero, suc-add}
+use Prim.Native.Nat.{ℕ, zero, suc, ◌+◌, ◌-◌, ◌*◌, ◌/◌, ◌≤◌, ◌<◌}
+use native.Mathlib.Nat.{not-suc-le-zero, le_of_suc-le-suc, add-suc, add-zero, suc-add, zero-add}
 use native.Mathlib.Omega.{arith}
 use borrow.Author.Tests.{ltb-false, ltb-true}
 use lib.Dec.{ltb}
 use lib.ListN.{length, take, drop, get_or, set, length-append, length-set, get_or-append, length-take, length-drop}
 use lib.Seq.{sets, length-sets, get_or-append-add, get_or-set_same, get_or-set_other, ext_get_or, get_or-take, get_or-drop}
 use Rattle.expr.specs.Terms.{Core, leaf, one, two, size}
-use Rattle.desugar.specs.Memory.{words, Holds, Kept}
+use Rattle.desugar.specs.Memory.{words, Holds, Kept, Lies}
 
 -- the same element, at an index that is equal
 pub same_at : (xs : List ℕ) {i j : ℕ} → i ≡ j → get_or xs i 0 ≡ get_or xs j 0
@@ -150,3 +150,18 @@ pub length_words : (c : Core) → length (words c) ≡ 3 * size c
 length_words (leaf a) = refl
 length_words (one o c) = omega (arith, length_words c)
 length_words (two o a b) = omega (arith, length-append (words a) (words b), length_words a, length_words b)
+
+-- the same core, at an index and of a count that are equal
+pub lies_at : {xs : List ℕ} {at to n m : ℕ} {c : Core} → at ≡ to → n ≡ m → Lies xs at n c → Lies xs to m c
+lies_at e f l = record { holds = moved l.holds e refl; count = sym f ∙ l.count }
+
+-- the numbers of a core that lies in memory, as a slice
+pub region_words : {xs : List ℕ} {at n : ℕ} {c : Core} → Lies xs at n c → take (3 * n) (drop at xs) ≡ words c
+region_words {xs} {at} {n} {c} l = ap (λ k. take k (drop at xs)) (ap (λ m. 3 * m) l.count ∙ sym (length_words c)) ∙ part xs at (words c) l.holds
+
+-- a core's numbers are the core, from the first on
+pub slice_lies : {xs : List ℕ} {c : Core} → xs ≡ words c → Lies xs 0 (length xs / 3) c
+slice_lies {xs} {c} e = record {
+  holds = record { fits = omega (arith, ap length e); each = λ k l. same_at xs (zero-add k) ∙ ap (λ (ys : List ℕ). get_or ys k 0) e };
+  count = omega (arith, ap length e, length_words c);
+}

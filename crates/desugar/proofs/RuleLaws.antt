@@ -1,6 +1,8 @@
 -- The rules on a use of a range: where each is broken, where all are kept, and what follows then.
 use mathlib.Core.Path.{◌≡◌, refl, sym, ap, ◌∙◌}
-use mathlib.Core.Bool.{Bool, true, false, cond, ◌&&◌, false≢true}
+use mathlib.Core.Bool.{Bool, true, false, cond, not, ◌&&◌, false≢true}
+use Rattle.std.specs.Bool.{◌==◌}
+use Rattle.std.specs.Ordering.{ordering_index}
 use Prim.Native.Nat.{ℕ, ◌-◌, ◌≤◌, ◌<◌}
 use native.Mathlib.Omega.{arith}
 use borrow.Author.Tests.{ltb-true, ltb-false, leb-true, eqb-true, eqb-false, le-leb, lt-leb, eq-eqb, ne_eqb}
@@ -62,7 +64,13 @@ not_above_fact Less = true
 not_above_fact Equal = true
 not_above_fact Greater = false
 
-pub order_leb : (x y : ℕ) → not_above_fact (order_of x y) ≡ leb x y
+-- whether it is Greater
+not_greater : (o : Ordering) (b : Bool) → b ≡ (ordering_index o == 2) → not_above_fact o ≡ not b
+not_greater Less b e = ap not (sym e)
+not_greater Equal b e = ap not (sym e)
+not_greater Greater b e = ap not (sym e)
+
+order_leb : (x y : ℕ) → not_above_fact (order_of x y) ≡ leb x y
 order_leb x y = go (ltb x y) refl (eqb x y) refl
   where
     go : (p : Bool) → ltb x y ≡ p → (q : Bool) → eqb x y ≡ q → not_above_fact (cond p Less (cond q Equal Greater)) ≡ leb x y
@@ -80,10 +88,12 @@ module _ (a b : Bits) (n at : ℕ) where
   pub values_high : n ≤ 128 → length a ≤ n → n < length b → refuse 20 at ≡ pattern_rule (IpRange a b) n at
   values_high h k l = rw (le-leb n 128 h, le-leb (length a) n k, lt-leb (length b) n l) refl
 
-  pub values_judged : n ≤ 128 → length a ≤ n → length b ≤ n → (o : Ordering) → o ≡ order_of (value_of a) (value_of b)
-      → need (not_above_fact o) 21 at ≡ pattern_rule (IpRange a b) n at
-  values_judged h k l o e =
-      ap (λ (z : Ordering). need (not_above_fact z) 21 at) e
+  -- o is Greater or not
+  pub values_judged : n ≤ 128 → length a ≤ n → length b ≤ n → (o : Ordering) → o ≡ order_of (value_of a) (value_of b) → {x : Bool} → x ≡ (ordering_index o == 2)
+      → need (not x) 21 at ≡ pattern_rule (IpRange a b) n at
+  values_judged h k l o e {x} g =
+      ap (λ z. need z 21 at) (sym (not_greater o x g))
+      ∙ ap (λ (z : Ordering). need (not_above_fact z) 21 at) e
       ∙ ap (λ z. need z 21 at) (order_leb (value_of a) (value_of b))
       ∙ rw (le-leb n 128 h, le-leb (length a) n k, le-leb (length b) n l) refl
 

@@ -26,26 +26,26 @@ mode_is Keep = refl
 mode_is Again = refl
 mode_is Skip = refl
 
-module _ {xs : List ℕ} {t : Core} {p : Places} {j : ℕ} {s : Next} (long : p.out + 3 * p.limit ≤ length xs) (l : j < p.n) (room : s.made ≤ p.limit) (run : Run xs t p j s) where
+module _ {xs : List ℕ} {t : Core} {p : Places} {j : ℕ} {s : Next} (long : p.out + 3 * p.limit ≤ length xs) (l : j < p.core.count) (room : s.made ≤ p.limit) (run : Run xs t p j s) where
   abbrev r : Now xs t p j s
   r = now l run
 
   f : Found long l r
   f = found long l r
 
-  pub turn_sides : get_or xs (p.at + 3 * j) 0 ≡ 11 → TwoNotes xs (p.notes + j)
+  pub turn_sides : get_or xs (p.core.at + 3 * j) 0 ≡ 11 → TwoNotes xs (p.notes + j)
   turn_sides e = f.sides (sym f.kind ∙ e)
 
   pub turn_top : s.top < length xs
   turn_top = f.top_in
 
-  pub turn_here : p.at + 3 * j + 3 ≤ length xs
+  pub turn_here : p.core.at + 3 * j + 3 ≤ length xs
   turn_here = f.here_in
 
-  pub turn_value : get_or xs (p.at + 3 * j + 2) 0 ≤ 1
+  pub turn_value : get_or xs (p.core.at + 3 * j + 2) 0 ≤ 1
   turn_value = f.value_small
 
-  module _ {m : Mode} (is-m : m ≡ mode_of (get_or xs s.top 0)) {d k : ℕ} (is-d : d ≡ drop_at xs (p.notes + j) (code m) (get_or xs (p.at + 3 * j) 0)) (is-k : k ≡ count_of (code m) (get_or xs (p.at + 3 * j) 0) d) where
+  module _ {m : Mode} (is-m : m ≡ mode_of (get_or xs s.top 0)) {d k : ℕ} (is-d : d ≡ drop_at xs (p.notes + j) (code m) (get_or xs (p.core.at + 3 * j) 0)) (is-k : k ≡ count_of (code m) (get_or xs (p.core.at + 3 * j) 0) d) where
     m_is : code m ≡ code r.mode
     m_is = ap code (is-m ∙ ap mode_of f.mode ∙ mode_is r.mode)
 
@@ -63,25 +63,25 @@ module _ {xs : List ℕ} {t : Core} {p : Places} {j : ℕ} {s : Next} (long : p.
 
     -- the memory after the records are written
     abbrev pub wrote : List ℕ
-    wrote = sets xs (p.out + 3 * s.made) (own_words k (code m) (get_or xs (p.at + 3 * j) 0) (get_or xs (p.at + 3 * j + 1) 0) (get_or xs (p.at + 3 * j + 2) 0))
+    wrote = sets xs (p.out + 3 * s.made) (own_words k (code m) (get_or xs (p.core.at + 3 * j) 0) (get_or xs (p.core.at + 3 * j + 1) 0) (get_or xs (p.core.at + 3 * j + 2) 0))
 
     wrote_is : wrote ≡ sets xs (p.out + 3 * s.made) (own r.mode r.core)
     wrote_is = λ i. sets xs (p.out + 3 * s.made) (own_words (k_is i) (m_is i) (f.kind i) (f.field i) (f.value i))
 
     pub wrote_kept : Kept p.modes xs wrote
-    wrote_kept = kept_sets p.modes xs (p.out + 3 * s.made) (own_words k (code m) (get_or xs (p.at + 3 * j) 0) (get_or xs (p.at + 3 * j + 1) 0) (get_or xs (p.at + 3 * j + 2) 0)) (omega (arith, p.out_at))
+    wrote_kept = kept_sets p.modes xs (p.out + 3 * s.made) (own_words k (code m) (get_or xs (p.core.at + 3 * j) 0) (get_or xs (p.core.at + 3 * j + 1) 0) (get_or xs (p.core.at + 3 * j + 2) 0)) (omega (arith, p.out_at))
 
     module _ (h : k ≤ p.limit - s.made) where
       in_limit : s.made + count_in r.mode r.core ≤ p.limit
       in_limit = omega (arith, k_is)
 
-      pub leaf_turn : get_or xs (p.at + 3 * j) 0 < 7 → Stepped wrote t p (j + 1) (record { top = s.top + 1; made = s.made + k })
+      pub leaf_turn : get_or xs (p.core.at + 3 * j) 0 < 7 → Stepped wrote t p (j + 1) (record { top = s.top + 1; made = s.made + k })
       leaf_turn g = record {
         on = λ b. rw (wrote_is, k_is) (leaf_run long l r in_limit (omega (arith, f.kind)));
         over = λ b. absurd (omega arith);
       }
 
-      module _ (g : 7 ≤ get_or xs (p.at + 3 * j) 0) where
+      module _ (g : 7 ≤ get_or xs (p.core.at + 3 * j) 0) where
         op : 7 ≤ core_kind r.core
         op = omega (arith, f.kind)
 
@@ -89,7 +89,7 @@ module _ {xs : List ℕ} {t : Core} {p : Places} {j : ℕ} {s : Next} (long : p.
         deep_turn = deep long l r in_limit op
 
         abbrev pub both : List ℕ
-        both = set (set wrote (s.top - 1) (left_code (code m) (get_or xs (p.at + 3 * j) 0) d)) s.top (right_code (code m) (get_or xs (p.at + 3 * j) 0) d)
+        both = set (set wrote (s.top - 1) (left_code (code m) (get_or xs (p.core.at + 3 * j) 0) d)) s.top (right_code (code m) (get_or xs (p.core.at + 3 * j) 0) d)
 
         next_top : s.top ≡ suc (s.top - 1)
         next_top = omega (arith, deep_turn)
@@ -107,17 +107,17 @@ module _ {xs : List ℕ} {t : Core} {p : Places} {j : ℕ} {s : Next} (long : p.
         }
 
   -- a turn that negates a kind below 9: nothing is dropped, one record is written, and the operands' modes are Negate
-  module _ {kind : ℕ} (is_kind : kind ≡ get_or xs (p.at + 3 * j) 0) (low : kind < 9) (negating : get_or xs s.top 0 ≡ 0) where
-    no : (m : ℕ) → 9 ≤ m → eqb (get_or xs (p.at + 3 * j) 0) m ≡ false
-    no m h = ne_eqb (get_or xs (p.at + 3 * j) 0) m (omega arith)
+  module _ {kind : ℕ} (is_kind : kind ≡ get_or xs (p.core.at + 3 * j) 0) (low : kind < 9) (negating : get_or xs s.top 0 ≡ 0) where
+    no : (m : ℕ) → 9 ≤ m → eqb (get_or xs (p.core.at + 3 * j) 0) m ≡ false
+    no m h = ne_eqb (get_or xs (p.core.at + 3 * j) 0) m (omega arith)
 
     is_negate : Negate ≡ mode_of (get_or xs s.top 0)
     is_negate = rw negating
 
-    none_dropped : 0 ≡ drop_at xs (p.notes + j) (code Negate) (get_or xs (p.at + 3 * j) 0)
+    none_dropped : 0 ≡ drop_at xs (p.notes + j) (code Negate) (get_or xs (p.core.at + 3 * j) 0)
     none_dropped = refl
 
-    one_made : 1 ≡ count_of (code Negate) (get_or xs (p.at + 3 * j) 0) 0
+    one_made : 1 ≡ count_of (code Negate) (get_or xs (p.core.at + 3 * j) 0) 0
     one_made = rw (no 9 (omega arith))
 
     pub plain_stop : p.limit ≡ s.made → Stepped xs t p (j + 1) (record { top = s.top; made = s.made + 1 })
@@ -125,7 +125,7 @@ module _ {xs : List ℕ} {t : Core} {p : Places} {j : ℕ} {s : Next} (long : p.
 
     -- the memory after the record is written
     abbrev pub plain : List ℕ
-    plain = sets xs (p.out + 3 * s.made) (new_kind 0 kind ∷ get_or xs (p.at + 3 * j + 1) 0 ∷ new_value 0 kind (get_or xs (p.at + 3 * j + 2) 0) ∷ [])
+    plain = sets xs (p.out + 3 * s.made) (new_kind 0 kind ∷ get_or xs (p.core.at + 3 * j + 1) 0 ∷ new_value 0 kind (get_or xs (p.core.at + 3 * j + 2) 0) ∷ [])
 
     plain_is : plain ≡ wrote is_negate none_dropped one_made
     plain_is = rw is_kind
@@ -141,7 +141,7 @@ module _ {xs : List ℕ} {t : Core} {p : Places} {j : ℕ} {s : Next} (long : p.
       plain_leaf g = rw plain_is (leaf_turn is_negate none_dropped one_made one_fits (omega arith))
 
       module _ (g : 7 ≤ kind) where
-        plain_op : 7 ≤ get_or xs (p.at + 3 * j) 0
+        plain_op : 7 ≤ get_or xs (p.core.at + 3 * j) 0
         plain_op = omega arith
 
         pub plain_deep : p.modes < s.top
@@ -151,7 +151,7 @@ module _ {xs : List ℕ} {t : Core} {p : Places} {j : ℕ} {s : Next} (long : p.
         top_is : get_or (set plain (s.top - 1) 0) s.top 0 ≡ 0
         top_is =
             get_or-set_other plain (s.top - 1) s.top 0 0 (omega (arith, plain_deep))
-            ∙ sets_below xs (p.out + 3 * s.made) (new_kind 0 kind ∷ get_or xs (p.at + 3 * j + 1) 0 ∷ new_value 0 kind (get_or xs (p.at + 3 * j + 2) 0) ∷ []) s.top (omega (arith, r.depth, p.out_at))
+            ∙ sets_below xs (p.out + 3 * s.made) (new_kind 0 kind ∷ get_or xs (p.core.at + 3 * j + 1) 0 ∷ new_value 0 kind (get_or xs (p.core.at + 3 * j + 2) 0) ∷ []) s.top (omega (arith, r.depth, p.out_at))
             ∙ negating
 
         plain_both : set plain (s.top - 1) 0 ≡ both is_negate none_dropped one_made one_fits plain_op
@@ -159,10 +159,10 @@ module _ {xs : List ℕ} {t : Core} {p : Places} {j : ℕ} {s : Next} (long : p.
             sym (set-get_or (set plain (s.top - 1) 0) s.top 0)
             ∙ (λ i. set (set (plain_is i) (s.top - 1) (left_is i)) s.top ((top_is ∙ right_is) i))
           where
-            left_is : 0 ≡ left_code (code Negate) (get_or xs (p.at + 3 * j) 0) 0
+            left_is : 0 ≡ left_code (code Negate) (get_or xs (p.core.at + 3 * j) 0) 0
             left_is = rw (no 9 (omega arith))
 
-            right_is : 0 ≡ right_code (code Negate) (get_or xs (p.at + 3 * j) 0) 0
+            right_is : 0 ≡ right_code (code Negate) (get_or xs (p.core.at + 3 * j) 0) 0
             right_is = rw (no 9 (omega arith), no 10 (omega arith))
 
         pub plain_pushed : Kept p.modes xs (set plain (s.top - 1) 0)

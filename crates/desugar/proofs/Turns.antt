@@ -56,20 +56,20 @@ pub record Now (xs : List ℕ) (t : Core) (p : Places) (j : ℕ) (s : Next) : Ty
   pub core : Core
   pub rest : List Task
   pub test : all_test (core ∷ cores_of rest) ≡ true
-  pub records : Holds xs (p.at + 3 * j) (words_all (core ∷ cores_of rest))
+  pub records : Holds xs (p.core.at + 3 * j) (words_all (core ∷ cores_of rest))
   pub noted : Holds xs (p.notes + j) (notes_all (core ∷ cores_of rest))
   pub stack : Holds xs s.top (code mode ∷ codes_of rest)
-  pub depth : s.top + suc (length rest) ≡ p.modes + p.n
-  pub left : j + (size core + size_all (cores_of rest)) ≡ p.n
+  pub depth : s.top + suc (length rest) ≡ p.modes + p.core.count
+  pub left : j + (size core + size_all (cores_of rest)) ≡ p.core.count
   pub done : List ℕ
   pub written : Holds xs p.out done
   pub long : length done ≡ 3 * s.made
   pub goal : done ++ emit_all (task mode core ∷ rest) ≡ words (negate t)
 
-module _ {xs : List ℕ} {t : Core} {p : Places} {j : ℕ} {s : Next} (l : j < p.n) where
+module _ {xs : List ℕ} {t : Core} {p : Places} {j : ℕ} {s : Next} (l : j < p.core.count) where
   now_of : (plan : List Task) → all_test (cores_of plan) ≡ true
-      → Holds xs (p.at + 3 * j) (words_all (cores_of plan)) → Holds xs (p.notes + j) (notes_all (cores_of plan)) → Holds xs s.top (codes_of plan)
-      → s.top + length plan ≡ p.modes + p.n → j + size_all (cores_of plan) ≡ p.n
+      → Holds xs (p.core.at + 3 * j) (words_all (cores_of plan)) → Holds xs (p.notes + j) (notes_all (cores_of plan)) → Holds xs s.top (codes_of plan)
+      → s.top + length plan ≡ p.modes + p.core.count → j + size_all (cores_of plan) ≡ p.core.count
       → (done : List ℕ) → Holds xs p.out done → length done ≡ 3 * s.made → done ++ emit_all plan ≡ words (negate t)
       → Now xs t p j s
   now_of [] a b c d e f g h i k = absurd (omega arith)
@@ -139,11 +139,11 @@ operands_of m (two o a b) t l = record {
 
 -- ## What a turn finds, and where
 
-module _ {xs : List ℕ} {t : Core} {p : Places} {j : ℕ} {s : Next} (room : p.out + 3 * p.limit ≤ length xs) (l : j < p.n) (r : Now xs t p j s) where
+module _ {xs : List ℕ} {t : Core} {p : Places} {j : ℕ} {s : Next} (room : p.out + 3 * p.limit ≤ length xs) (l : j < p.core.count) (r : Now xs t p j s) where
   first_test : is_test r.core ≡ true
   first_test = and_left (is_test r.core) (all_test (cores_of r.rest)) r.test
 
-  here : Spot xs (p.at + 3 * j) r.core (cores_of r.rest)
+  here : Spot xs (p.core.at + 3 * j) r.core (cores_of r.rest)
   here = spot r.core (cores_of r.rest) r.records
 
   above : Holds xs (p.notes + j + 1) (notes_all (operands r.core ++ cores_of r.rest))
@@ -151,13 +151,13 @@ module _ {xs : List ℕ} {t : Core} {p : Places} {j : ℕ} {s : Next} (room : p.
 
   -- the place of the turn: the record, the stack's top, the notes, and the room for what is written
   pub record Found : Type 0 where
-    pub kind : get_or xs (p.at + 3 * j) 0 ≡ core_kind r.core
-    pub field : get_or xs (p.at + 3 * j + 1) 0 ≡ core_field r.core
-    pub value : get_or xs (p.at + 3 * j + 2) 0 ≡ core_value r.core
-    pub value_small : get_or xs (p.at + 3 * j + 2) 0 ≤ 1
+    pub kind : get_or xs (p.core.at + 3 * j) 0 ≡ core_kind r.core
+    pub field : get_or xs (p.core.at + 3 * j + 1) 0 ≡ core_field r.core
+    pub value : get_or xs (p.core.at + 3 * j + 2) 0 ≡ core_value r.core
+    pub value_small : get_or xs (p.core.at + 3 * j + 2) 0 ≤ 1
     pub mode : get_or xs s.top 0 ≡ code r.mode
     pub drop : drop_at xs (p.notes + j) (code r.mode) (core_kind r.core) ≡ dropped r.mode r.core
-    pub here_in : p.at + 3 * j + 3 ≤ length xs
+    pub here_in : p.core.at + 3 * j + 3 ≤ length xs
     pub top_in : s.top < length xs
     pub sides : core_kind r.core ≡ 11 → TwoNotes xs (p.notes + j)
 
@@ -182,7 +182,7 @@ module _ {xs : List ℕ} {t : Core} {p : Places} {j : ℕ} {s : Next} (room : p.
 
   -- the run after the turn, in a memory that has kept what lies below the modes
   after : (xs' : List ℕ) (top' : ℕ) → Kept p.modes xs xs'
-      → Holds xs' top' (codes_of (tasks_of r.mode r.core ++ r.rest)) → top' + length (tasks_of r.mode r.core ++ r.rest) ≡ p.modes + p.n
+      → Holds xs' top' (codes_of (tasks_of r.mode r.core ++ r.rest)) → top' + length (tasks_of r.mode r.core ++ r.rest) ≡ p.modes + p.core.count
       → Holds xs' p.out (r.done ++ own r.mode r.core) → Run xs' t p (j + 1) (record { top = top'; made = s.made + count_in r.mode r.core })
   after xs' top' kept stack depth written =
       let cores : cores_of (tasks_of r.mode r.core ++ r.rest) ≡ operands r.core ++ cores_of r.rest = cores_open r.mode r.core r.rest in

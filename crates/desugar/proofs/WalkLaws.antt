@@ -1,4 +1,4 @@
--- Laws of the walk: terms in bytes, room on the stack, and what a walk came to.
+-- Laws of the walk: terms in bytes, room on the stack, and the core that a walk ends with.
 use mathlib.Core.Path.{◌≡◌, refl, sym, ap, subst, ◌∙◌}
 use mathlib.Core.List.{List, ◌∷◌, ◌++◌, append_assoc}
 use Prim.Native.Nat.{ℕ, ◌+◌, ◌*◌, ◌≤◌}
@@ -11,7 +11,8 @@ use Rattle.refusals.specs.Refusals.{number_of}
 use Rattle.refusals.specs.declared.Refusal.{Refusal}
 use Rattle.std.specs.Prelude.{Result, Ok, Err}
 use Rattle.refusals.specs.declared.Refused.{Refused}
-use Rattle.desugar.specs.declared.went.Walked.{Walked}
+use Rattle.desugar.specs.declared.memory.Region.{Region}
+use Rattle.desugar.specs.declared.operands.Walked.{Walked}
 use Rattle.expr.specs.Answers.{Answer, ok, refuse, and_then}
 use Rattle.expr.specs.Terms.{Core, Expr, records}
 use Rattle.expr.specs.Form.{encode}
@@ -24,8 +25,8 @@ use Rattle.desugar.specs.Bindings.{Env}
 use Rattle.desugar.specs.Meter.{Meter, left}
 use Rattle.desugar.specs.Desugar.{desugar}
 use Rattle.desugar.specs.Memory.{Kept, Lies}
-use Rattle.desugar.specs.WalkWords.{TermAt, TermsAt, Stack, Came, WalkedAs, Ready}
-use Rattle.desugar.proofs.Regions.{kept_then, kept_less}
+use Rattle.desugar.specs.WalkWords.{TermAt, TermsAt, Stack, WalkedCore, WalkedAs, Ready}
+use Rattle.desugar.proofs.Regions.{kept_then, kept_less, lies_at}
 use Rattle.desugar.proofs.Frames.{bound_kept}
 pub use Rattle.desugar.proofs.RecordBytes.{lies_inside}
 
@@ -92,7 +93,7 @@ abbrev pub ready_first : {s xs : List ℕ} {from levels place last top a : ℕ} 
     → TermsAt s from levels place (e ∷ es) → Stack xs last top a levels env → Ready s from levels place last top a xs
 ready_first {env = env} e es t k = record { term = e; env = env; start = t.start; text = first_behind e es t; stack = k }
 
--- ## What a walk came to
+-- ## What a walk ends with
 
 -- the contract of a walk over one term
 abbrev pub Visited : List ℕ → (at levels place last top a : ℕ) → (xs xs' : List ℕ) → Result Walked Refused → Type 0
@@ -101,9 +102,9 @@ Visited s at levels place last top a xs xs' r =
     → WalkedAs (desugar q.env q.term place (left a)) (at + length (encode q.term)) (place + records q.term) top a levels xs xs' r
 
 module _ {s xs : List ℕ} {at levels place last top a : ℕ} (xs' : List ℕ) (q : Ready s at levels place last top a xs) where
-  pub came : {w : Walked} → Visited s at levels place last top a xs xs' (Ok w)
-      → Came (desugar q.env q.term place (left a)) (at + length (encode q.term)) (place + records q.term) top a levels xs xs' w
-  came v = v q
+  pub walked : {w : Walked} → Visited s at levels place last top a xs xs' (Ok w)
+      → WalkedCore (desugar q.env q.term place (left a)) (at + length (encode q.term)) (place + records q.term) top a levels xs xs' w
+  walked v = v q
 
   pub stopped : (r : Refused) → Visited s at levels place last top a xs xs' (Err r) → desugar q.env q.term place (left a) ≡ refuse (number_of r.refusal) r.place
   stopped r v = v q
@@ -131,27 +132,30 @@ wider x y u u₁ n n₁ top top₁ a a₁ l l₁ xs xs₁ ys (Ok w) e used next 
     }
 wider x y u u₁ n n₁ top top₁ a a₁ l l₁ xs xs₁ ys (Err k) e used next above reach drawn kept c = e ∙ c
 
--- the first operand's answer x, and the core settled at an index
-pub record Settled (x : Answer (Core × Meter)) (used next at a : ℕ) (xs xs' : List ℕ) (w : Walked) : Type 0 where
+-- an operand's answer x, and its core settled in a region at an index
+pub record Settled (x : Answer (Core × Meter)) (used next at a : ℕ) (xs xs' : List ℕ) (w : Walked) (r : Region) : Type 0 where
   pub core : Core
   pub is : x ≡ ok (core, left w.left)
   pub used_is : w.used ≡ used
   pub next_is : w.next ≡ next
-  pub lies : Lies xs' at w.count core
+  pub at_is : r.at ≡ at
+  pub lies : Lies xs' r.at r.count core
   pub kept : Kept at xs xs'
-  pub drawn : w.count + w.left ≤ a
+  pub drawn : r.count + w.left ≤ a
 
-pub settled : {x : Answer (Core × Meter)} {used next top a levels : ℕ} {xs xs₁ xs₂ : List ℕ} {w : Walked} → Came x used next top a levels xs xs₁ w
-    → Kept top xs₁ xs₂ → ((c : Core) → Lies xs₁ w.at w.count c → Lies xs₂ top w.count c) → Settled x used next top a xs xs₂ w
-settled c kept moves =
+pub settled : {x : Answer (Core × Meter)} {used next top a levels : ℕ} {xs xs₁ xs₂ : List ℕ} {w : Walked} {r : Region}
+    → WalkedCore x used next top a levels xs xs₁ w → (r.at ≡ top) × (r.count ≡ w.core.count)
+    → Kept top xs₁ xs₂ → ((c : Core) → Lies xs₁ w.core.at w.core.count c → Lies xs₂ top w.core.count c) → Settled x used next top a xs xs₂ w r
+settled {top} {xs} {xs₂} c place kept moves =
     record {
       core = c.core;
       is = c.is;
       used_is = c.used_is;
       next_is = c.next_is;
-      lies = moves c.core c.lies;
+      at_is = place.0;
+      lies = lies_at (sym place.0) (sym place.1) (moves c.core c.lies);
       kept = kept_then c.kept kept;
-      drawn = c.drawn;
+      drawn = omega (arith, c.drawn, place.1);
     }
 
 -- go on from an answer that is known

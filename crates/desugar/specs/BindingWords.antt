@@ -8,20 +8,27 @@ use lib.{ListN.length, ListN.get_or}
 use Rattle.expr.specs.{Terms.Core, Terms.Name}
 use Rattle.desugar.specs.{Bindings.Env, Bindings.variable, Bindings.range, Bindings.lookup_variable, Bindings.lookup_alias, Memory.Holds, Memory.Lies}
 use Rattle.desugar.specs.declared.Fields.{Fields}
-use Rattle.desugar.specs.declared.bindings.Region.{Region}
+use Rattle.desugar.specs.declared.bindings.FrameKind.{FrameKind}
+use Rattle.desugar.specs.declared.bindings.FrameKind.TheVariants.{Variable, Alias}
+use Rattle.desugar.specs.declared.memory.Region.{Region}
+
+-- a kind as it lies in work memory
+abbrev pub frame_number : FrameKind → ℕ
+frame_number Variable = 0
+frame_number Alias = 1
 
 -- a frame ends at index last, and the one around it ends below it
-pub record Frame (xs : List ℕ) (last kind : ℕ) (x : Name) (a b : ℕ) : Type 0 where
+pub record Frame (xs : List ℕ) (last : ℕ) (kind : FrameKind) (x : Name) (a b : ℕ) : Type 0 where
   pub deep : 5 ≤ last
   pub inside : last ≤ length xs
-  pub holds : Holds xs (last - 5) (kind ∷ x ∷ a ∷ b ∷ [])
+  pub holds : Holds xs (last - 5) (frame_number kind ∷ x ∷ a ∷ b ∷ [])
   pub falls : get_or xs (last - 1) 0 + 5 ≤ last
 
 -- a variable's frame, and its core below it
 pub record VariableFrame (xs : List ℕ) (last : ℕ) (x : Name) (c : Core) : Type 0 where
   pub at : ℕ
   pub count : ℕ
-  pub frame : Frame xs last 0 x at count
+  pub frame : Frame xs last Variable x at count
   pub lies : Lies xs at count c
   pub below : at + 3 * count + 5 ≤ last
 
@@ -29,7 +36,7 @@ pub record VariableFrame (xs : List ℕ) (last : ℕ) (x : Name) (c : Core) : Ty
 abbrev pub Bound : List ℕ → ℕ → Env Core → Type 0
 Bound xs last [] = last ≡ 0
 Bound xs last (variable x c ∷ env) = VariableFrame xs last x c × Bound xs (get_or xs (last - 1) 0) env
-Bound xs last (range x s e ∷ env) = Frame xs last 1 x s e × Bound xs (get_or xs (last - 1) 0) env
+Bound xs last (range x s e ∷ env) = Frame xs last Alias x s e × Bound xs (get_or xs (last - 1) 0) env
 
 pub record AnyBound (xs : List ℕ) (last : ℕ) : Type 0 where
   pub env : Env Core
@@ -50,13 +57,13 @@ VariableEnd xs x none r = r ≡ std.None
 
 -- the end of an alias's frame, if there is one
 abbrev pub AliasEnd : List ℕ → Name → Option (ℕ × ℕ) → std.Option ℕ → Type 0
-AliasEnd xs x (some p) r = std.IsSomeAnd r (λ last. Frame xs last 1 x p.0 p.1)
+AliasEnd xs x (some p) r = std.IsSomeAnd r (λ last. Frame xs last Alias x p.0 p.1)
 AliasEnd xs x none r = r ≡ std.None
 
 -- the end of the innermost frame of a kind and a name, if there is one
-pub record Ends (xs : List ℕ) (kind : ℕ) (x : Name) (env : Env Core) (r : std.Option ℕ) : Type 0 where
-  pub variables : kind ≡ 0 → VariableEnd xs x (lookup_variable env x) r
-  pub aliases : kind ≡ 1 → AliasEnd xs x (lookup_alias env x) r
+abbrev pub Ends : List ℕ → FrameKind → Name → Env Core → std.Option ℕ → Type 0
+Ends xs Variable x env r = VariableEnd xs x (lookup_variable env x) r
+Ends xs Alias x env r = AliasEnd xs x (lookup_alias env x) r
 
 -- where a core lies, below the end of the bindings
 pub record CoreAt (xs : List ℕ) (last : ℕ) (c : Core) (r : Region) : Type 0 where

@@ -3,7 +3,7 @@ use mathlib.Core.{Path.◌≡◌, List.List, List.[], List.◌++◌}
 use Rattle.std.specs.Prelude.{ℕ, zero, suc, ◌+◌, ◌*◌, ◌≤◌, ◌<◌}
 use lib.{ListN.length, ListN.get_or, ListN.drop, Seq.sets}
 use Rattle.expr.specs.{Terms.Core, Records.Record, Records.write_record, Form.encode_core}
-use Rattle.desugar.specs.{Memory.Lies, declared.core_bytes.CoreRecord.CoreRecord}
+use Rattle.desugar.specs.{Memory.words, declared.core_bytes.CoreRecord.CoreRecord}
 
 -- a record of a kind, a field and a value
 abbrev pub core_record : ℕ → ℕ → ℕ → Record
@@ -36,10 +36,10 @@ pub record Put (bytes out : List ℕ) (to : ℕ) (out' : List ℕ) (r : ℕ) : T
   pub written : out' ≡ sets out to bytes
   pub next : r ≡ to + length bytes
 
--- a core lies there, and the buffer has room for its bytes
-pub record Writable (xs : List ℕ) (at n : ℕ) (out : List ℕ) : Type 0 where
+-- the numbers of a core, for whose bytes the buffer has room
+pub record Writable (xs out : List ℕ) : Type 0 where
   pub core : Core
-  pub lies : Lies xs at n core
+  pub is : xs ≡ words core
   pub room : length (encode_core core) ≤ length out
 
 -- a core's bytes stand in front of the buffer, the rest of it is kept, and r is their number

@@ -7,7 +7,7 @@ use Rattle.literals.specs.{Bits.Bits, Bits.bit}
 use Rattle.expr.specs.{Terms.Atom, Terms.Op2, Terms.Core, Terms.leaf, Terms.op2_kind, Terms.One, Terms.Test, Terms.Intersect, Terms.Union}
 use Rattle.desugar.specs.declared.leaves.Chain.{Chain}
 use Rattle.desugar.specs.declared.leaves.Chain.TheVariants.{Assigns, Tests}
-use Rattle.desugar.specs.{Leaves.chain, Leaves.high_first, Costs.chain_size, Costs.differences_size, Memory.Holds, Memory.words, Rules.max_range_bits, declared.leaves.Progress.Progress, declared.standing.Standing.Standing}
+use Rattle.desugar.specs.{Leaves.chain, Leaves.high_first, Costs.differences_size, Memory.Holds, Memory.words, declared.leaves.Progress.Progress, declared.standing.Standing.Standing}
 
 -- n bits of a literal, from index i on: false beyond its last
 abbrev pub stretch : Bits → ℕ → ℕ → Bits
@@ -32,12 +32,6 @@ chain_atom Tests = 6
 pub record Kinds (operator atom : ℕ) (o : Op2) (f : ℕ → Bool → Atom) : Type 0 where
   pub operator_is : op2_kind o ≡ operator
   pub atom_is : (s : ℕ) (b : Bool) → words (leaf (f s b)) ≡ atom ∷ s ∷ bit b ∷ []
-
--- the numbers xs have room for a chain of n atoms from index at on, and its fields and its bits can be counted
-pub record ChainRoom (xs : List ℕ) (at start from n : ℕ) : Type 0 where
-  pub room : at + 3 * chain_size n ≤ length xs
-  pub fields : start + n ≤ 2 ^ 32
-  pub reach : from + n ≤ 2 ^ 32
 
 -- ## Bounds, from the highest bit of a width w down: what is written for the bits from index p on
 
@@ -67,13 +61,6 @@ pub record Stands (a : Bits) (s : Standing) : Type 0 where
   pub count : s.count ≡ ones a
   pub size : s.size ≡ differences_size true a
 
--- the numbers xs have room for n records from index at on, and the fields and bits of a bound can be counted
-pub record BoundRoom (xs : List ℕ) (at n start width : ℕ) : Type 0 where
-  pub room : at + 3 * n ≤ length xs
-  pub fields : start + width ≤ 2 ^ 32
-  pub some : 0 < width
-  pub wide : width ≤ max_range_bits
-
 -- the links of the bits from index `done` on stand at `from`, before index `to`
 pub record Ready (s : ℕ) (a : Bits) (w : ℕ) (xs : List ℕ) (r : Progress) : Type 0 where
   pub reach : r.done ≤ w
@@ -98,12 +85,3 @@ trim m (suc w) = cond (get_or m w false) (trim m w) (suc w)
 pub record RangeRoom (xs : List ℕ) (at n start width : ℕ) : Type 0 where
   pub room : at + 3 * n ≤ length xs
   pub fields : start + width ≤ 2 ^ 32
-
--- ## Ranges of values
-
--- the bounds' bits and the range's width
-pub record Widths (low high width : ℕ) : Type 0 where
-  pub low_fits : low ≤ width
-  pub high_fits : high ≤ width
-  pub some : 0 < width
-  pub wide : width ≤ max_range_bits

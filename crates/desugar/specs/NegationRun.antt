@@ -115,7 +115,7 @@ pub record CanNote (xs : List ℕ) (here note : ℕ) (last : Note) : Type 0 wher
 
 -- the test c lies in its place, and its notes in theirs
 pub record Noted (xs : List ℕ) (p : Places) (c : Core) : Type 0 where
-  pub lies : Lies xs p.at p.n c
+  pub lies : Lies xs p.core.at p.core.count c
   pub test : is_test c ≡ true
   pub noted : Holds xs p.notes (notes_of c)
 
@@ -199,11 +199,11 @@ codes_of (task m c ∷ ts) = code m ∷ codes_of ts
 pub record Run (xs : List ℕ) (t : Core) (p : Places) (j : ℕ) (s : Next) : Type 0 where
   pub plan : List Task
   pub test : all_test (cores_of plan) ≡ true
-  pub records : Holds xs (p.at + 3 * j) (words_all (cores_of plan))
+  pub records : Holds xs (p.core.at + 3 * j) (words_all (cores_of plan))
   pub noted : Holds xs (p.notes + j) (notes_all (cores_of plan))
   pub stack : Holds xs s.top (codes_of plan)
-  pub depth : s.top + length plan ≡ p.modes + p.n
-  pub left : j + size_all (cores_of plan) ≡ p.n
+  pub depth : s.top + length plan ≡ p.modes + p.core.count
+  pub left : j + size_all (cores_of plan) ≡ p.core.count
   pub done : List ℕ
   pub written : Holds xs p.out done
   pub long : length done ≡ 3 * s.made

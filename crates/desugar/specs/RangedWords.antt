@@ -1,8 +1,8 @@
--- Atoms and uses of ranges: the words of the contracts of src/rules.rt, src/ranged.rt and src/leaf.rt.
-use mathlib.Core.{Path.◌≡◌, Bool.Bool, Bool.true, Bool.false, Bool.cond, List.List, List.[], List.◌∷◌}
-use Rattle.std.specs.Prelude.{ℕ, ◌+◌, ◌-◌, ◌*◌, ◌^◌, ◌≤◌, ◌<◌, Result, Ok, Err}
-use lib.{Dec.eqb, ListN.length, ListN.get_or, ListN.drop}
-use Rattle.expr.specs.{Answers.Answer, Answers.ok, Answers.refuse, Answers.and_then, Terms.Atom, Terms.Zero, Terms.One, Terms.Top, Terms.Dup, Terms.End, Terms.Assign, Terms.Test, Terms.Core, Terms.Where, Terms.Direct, Terms.Alias, Terms.size, Records.Record, Form.max_records, Form.pattern_of, Results.HeadInside, Results.record_of}
+-- Atoms and uses of ranges: the words of the contracts of src/rules.rt, src/judged.rt, src/ranged.rt and src/leaf.rt.
+use mathlib.Core.{Path.◌≡◌, Bool.Bool, Bool.true, Bool.false, List.List, List.[], List.◌∷◌}
+use Rattle.std.specs.Prelude.{ℕ, ◌+◌, ◌-◌, ◌*◌, ◌≤◌, ◌<◌, Result, Ok, Err}
+use lib.{Dec.eqb, ListN.length, ListN.get_or}
+use Rattle.expr.specs.{Answers.Answer, Answers.ok, Answers.refuse, Answers.and_then, Terms.Atom, Terms.Zero, Terms.One, Terms.Top, Terms.Dup, Terms.End, Terms.Assign, Terms.Test, Terms.Core, Terms.Where, Terms.Direct, Terms.Alias, Terms.size, Records.Record, Form.max_records, Results.record_of}
 use Rattle.literals.specs.Results.{literal_bits}
 use Rattle.expr.specs.Terms as written
 use Rattle.refusals.specs.Refusals.{number_of}
@@ -10,8 +10,8 @@ use Rattle.refusals.specs.declared.Refusal.{Refusal}
 use Rattle.expr.specs.Kinds.{kind_number, pattern_number}
 use Rattle.expr.specs.declared.records.Head.{Head}
 use Rattle.desugar.specs.declared.Fields.{Fields}
-use Rattle.desugar.specs.declared.ranged.Use.{Use}
-use Rattle.desugar.specs.{Bindings.Env, Bindings.find_range, Meter.Draws, Meter.drawing, Rules.known_range, Rules.max_range_bits, Rules.pattern_rule, Rules.use_rule, Rules.range_rule, Leaves.use_core, BindingWords.Bound, WalkWords.where_of, WalkWords.use_of}
+use Rattle.desugar.specs.declared.uses.Use.{Use}
+use Rattle.desugar.specs.{Bindings.Env, Bindings.find_range, Meter.Draws, Meter.drawing, Rules.known_range, Rules.range_rule, Leaves.use_core, BindingWords.Bound, WalkWords.where_of, WalkWords.use_of}
 
 -- ## Records
 
@@ -33,14 +33,8 @@ record_in u =
       lit_b = literal_bits u.b;
     }
 
--- no bit of its literals is lacking
-pub record Whole (u : Use) : Type 0 where
-  pub first : length (literal_bits u.a) ≡ u.a.len
-  pub second : length (literal_bits u.b) ≡ u.b.len
-
 -- the use of a range by the record that a head stands for, its literals taken from the bytes s
 pub record UseIn (s : List ℕ) (h : Head) (u : Use) : Type 0 where
-  pub whole : Whole u
   pub same : use_of (record_in u) ≡ use_of (record_of s h)
   pub rule : (r : ℕ × ℕ) (at : ℕ) → range_rule (where_of (record_in u)) (use_of (record_in u)) r at ≡ range_rule (where_of (record_of s h)) (use_of (record_of s h)) r at
 
@@ -56,27 +50,9 @@ abbrev pub is_direct : Where → Bool
 is_direct (Direct s e) = true
 is_direct (Alias x) = false
 
--- a pattern on n fields, and a use of them, that keep the rules
-pub record PatternKept (u : Use) (n : ℕ) : Type 0 where
-  pub whole : Whole u
-  pub rule : pattern_rule (pattern_of (record_in u)) n 0 ≡ ok tt
-  pub few : n < 2 ^ 32
-
-pub record UseKept (u : Use) (n : ℕ) : Type 0 where
-  pub whole : Whole u
-  pub rule : use_rule (where_of (record_in u)) (use_of (record_in u)) n 0 ≡ ok tt
-  pub few : n < 2 ^ 32
-
 -- a use of fields that keeps the rules
 pub record RangeKept (u : Use) (f : Fields) : Type 0 where
-  pub whole : Whole u
   pub rule : range_rule (where_of (record_in u)) (use_of (record_in u)) (f.start, f.end) 0 ≡ ok tt
-
--- a record that was read from the bytes s, and the bindings
-pub record RangeReady (s : List ℕ) (h : Head) (last : ℕ) (xs : List ℕ) : Type 0 where
-  pub inside : HeadInside s (Ok h)
-  pub env : Env Core
-  pub bound : Bound xs last env
 
 -- the range of a use that keeps the rules 11 and 14 to 21
 abbrev pub judged_range : Env Core → Where → written.Use → ℕ → Answer (ℕ × ℕ)
@@ -88,16 +64,9 @@ judged_answer (Err e) at = refuse (number_of e) at
 
 -- ## Cores
 
--- the bounds of a range of values fit its width, which may be 0
-pub record Bounds (low high width : ℕ) : Type 0 where
-  pub low_fits : low ≤ width
-  pub high_fits : high ≤ width
-  pub wide : width ≤ max_range_bits
-
--- the numbers xs have room for the core of a use from index top on, and its fields can be counted
-pub record UseRoom (xs : List ℕ) (top : ℕ) (u : written.Use) (start n : ℕ) : Type 0 where
-  pub room : top + 3 * size (use_core u start n) ≤ length xs
-  pub fields : start + n < 2 ^ 32
+-- the core of a use on fields
+abbrev pub core_on : written.Use → Fields → Core
+core_on u f = use_core u f.start (f.end - f.start)
 
 -- the draw of a use of a range
 abbrev pub use_drawn : written.Use → ℕ × ℕ → ℕ → Draws Core

@@ -1,6 +1,6 @@
--- The walk over a term's bytes: the words of the contracts of src/walk.rt, src/went.rt and src/leaf.rt.
+-- The walk over a term's bytes: the words of the contracts of src/walk.rt, src/operands.rt and src/leaf.rt.
 use mathlib.Core.{Path.◌≡◌, Bool.Bool, Bool.cond, Bool.◌&&◌, Bool.◌||◌, List.List, List.[], List.◌∷◌, List.◌++◌}
-use Rattle.std.specs.Prelude.{ℕ, ◌+◌, ◌*◌, ◌^◌, ◌≤◌, ◌<◌, Result, Ok, Err}
+use Rattle.std.specs.Prelude.{ℕ, ◌+◌, ◌-◌, ◌*◌, ◌^◌, ◌≤◌, ◌<◌, Result, Ok, Err}
 use lib.{Dec.leb, Dec.eqb, ListN.length, ListN.drop}
 use Rattle.expr.specs.{Answers.Answer, Answers.ok, Answers.refuse, Answers.and_then, Answers.need, Terms.Op1, Terms.Op2, Terms.Union, Terms.Sequence, Terms.Core, Terms.two, Terms.Where, Terms.Direct, Terms.Alias, Terms.Use, Terms.Assigns, Terms.Tests, Terms.Matches, Terms.Expr, Terms.op1_kind, Terms.op2_kind, Terms.size, Terms.records, Terms.depth, Records.Record, Form.max_records, Form.encode, Form.Fits, Form.pattern_of, Replaced.encode_all, Replaced.records_all, Replaced.depth_all, Replaced.FitAll, Results.HeadInside}
 use Rattle.refusals.specs.Refusals.{number_of}
@@ -8,7 +8,10 @@ use Rattle.refusals.specs.declared.Refused.{Refused}
 use Rattle.expr.specs.declared.records.Head.{Head}
 use Rattle.desugar.specs.{Bindings.Env, Desugar.desugar, Meter.Meter, Meter.left, Meter.Draws, Meter.◌>>=◌, Meter.lift, Meter.drawing, Negation.is_test, Negation.is_one, Negation.negate, Memory.words, Memory.Holds, Memory.Kept, Memory.Lies, NegationOutcome.Negates, BindingWords.Bound}
 use Rattle.desugar.specs.declared.test_negation.NegationError.{NegationError}
-use Rattle.desugar.specs.declared.went.Walked.{Walked}
+use Rattle.desugar.specs.declared.memory.Region.{Region}
+use Rattle.desugar.specs.declared.operands.Walked.{Walked}
+use Rattle.desugar.specs.declared.walk.Spot.{Spot}
+use Rattle.desugar.specs.declared.guarded.Guarded.{Guarded}
 
 -- ## Terms in bytes
 
@@ -39,21 +42,21 @@ pub record Stack (xs : List ℕ) (last top allowance levels : ℕ) (env : Env Co
   pub room : top + 8 * allowance + 12 * levels ≤ length xs
   pub small : top + 8 * allowance + 12 * levels < 2 ^ 32
 
--- a walk came to a core: x is its definition's answer. The core lies at or above the top; nothing below the top has changed
-pub record Came (x : Answer (Core × Meter)) (used next top allowance levels : ℕ) (xs xs' : List ℕ) (w : Walked) : Type 0 where
+-- a walk ends with a core: x is its definition's answer. The core lies at or above the top; nothing below the top has changed
+pub record WalkedCore (x : Answer (Core × Meter)) (used next top allowance levels : ℕ) (xs xs' : List ℕ) (w : Walked) : Type 0 where
   pub core : Core
   pub is : x ≡ ok (core, left w.left)
   pub used_is : w.used ≡ used
   pub next_is : w.next ≡ next
-  pub lies : Lies xs' w.at w.count core
+  pub lies : Lies xs' w.core.at w.core.count core
   pub kept : Kept top xs xs'
-  pub above : top ≤ w.at
-  pub reach : w.at + 3 * w.count + 3 * w.left ≤ top + 3 * allowance + 12 * levels
-  pub drawn : w.count + w.left ≤ allowance
+  pub above : top ≤ w.core.at
+  pub reach : w.core.at + 3 * w.core.count + 3 * w.left ≤ top + 3 * allowance + 12 * levels
+  pub drawn : w.core.count + w.left ≤ allowance
 
 -- r is the definition's answer x: the index of the byte behind the term, the index of the record behind it, and the core; or the refusal
 abbrev pub WalkedAs : Answer (Core × Meter) → (used next top allowance levels : ℕ) → (xs xs' : List ℕ) → Result Walked Refused → Type 0
-WalkedAs x used next top allowance levels xs xs' (Ok w) = Came x used next top allowance levels xs xs' w
+WalkedAs x used next top allowance levels xs xs' (Ok w) = WalkedCore x used next top allowance levels xs xs' w
 WalkedAs x used next top allowance levels xs xs' (Err e) = x ≡ refuse (number_of e.refusal) e.place
 
 -- ## What is asked
@@ -88,7 +91,20 @@ pub record ReadyThree (s : List ℕ) (from levels place last top allowance : ℕ
   pub text : TermsAt s from levels (place + 1) (first ∷ second ∷ third ∷ [])
   pub stack : Stack xs last top allowance (levels + 1) env
 
--- ## What is told of the answer
+-- the same by the spot that the walk stands at
+abbrev pub TermReady : List ℕ → Spot → List ℕ → Type 0
+TermReady s w = Ready s w.at w.left w.place w.env.last w.top w.allowance
+
+abbrev pub OneReady : List ℕ → Spot → List ℕ → Type 0
+OneReady s w = ReadyOne s w.at w.left w.place w.env.last w.top w.allowance
+
+abbrev pub TwoReady : List ℕ → Spot → List ℕ → Type 0
+TwoReady s w = ReadyTwo s w.at w.left w.place w.env.last w.top w.allowance
+
+abbrev pub ThreeReady : List ℕ → Spot → List ℕ → Type 0
+ThreeReady s w = ReadyThree s w.at w.left w.place w.env.last w.top w.allowance
+
+-- ## What is said of the answer
 
 -- of a term
 abbrev pub TermWalked : {s xs : List ℕ} {at levels place last top allowance : ℕ} → Ready s at levels place last top allowance xs → List ℕ → Result Walked Refused → Type 0
@@ -125,8 +141,8 @@ pub record Operator2 (kind : ℕ) : Type 0 where
 pub record Operands (c : Core) (kind : ℕ) (w : Walked) (xs : List ℕ) : Type 0 where
   pub rest : List ℕ
   pub words_are : words c ≡ kind ∷ 0 ∷ 0 ∷ rest
-  pub holds : Holds xs w.at rest
-  pub count : size c ≡ w.count + 1
+  pub holds : Holds xs w.core.at rest
+  pub count : size c ≡ w.core.count + 1
 
 -- "Sequence drops a One"
 abbrev pub drops : Op2 → Core → Bool
@@ -143,59 +159,66 @@ choosing c t e at = lift (need (is_test c) 23 at) >>= λ _. drawing (size (negat
 -- a core at w, and room above it for its negation
 pub record NegationRoom (xs : List ℕ) (w : Walked) : Type 0 where
   pub core : Core
-  pub lies : Lies xs w.at w.count core
-  pub room : w.at + 5 * w.count + 3 * w.left ≤ length xs
-  pub small : w.count + w.left < 2 ^ 30
+  pub lies : Lies xs w.core.at w.core.count core
+  pub room : w.core.at + 5 * w.core.count + 3 * w.left ≤ length xs
+  pub small : w.core.count + w.left < 2 ^ 30
 
--- a core of n records with room for a record below it, and another core above it
-pub record JoinRoom (xs : List ℕ) (top n : ℕ) (b : Walked) : Type 0 where
-  pub apart : top + 3 + 3 * n ≤ b.at
-  pub room : b.at + 3 * b.count ≤ length xs
+-- a core with room for a record below it, and another core above it
+pub record JoinRoom (xs : List ℕ) (first : Region) (b : Walked) : Type 0 where
+  pub low : 3 ≤ first.at
+  pub apart : first.at + 3 * first.count ≤ b.core.at
+  pub room : b.core.at + 3 * b.core.count ≤ length xs
 
 -- how many records of a negation are there
 abbrev pub negated_size : Result ℕ NegationError → ℕ
 negated_size (Ok n) = n
 negated_size (Err e) = 0
 
--- the cores of an If: the condition's n records above the room for two, those of the first branch behind them, the room for a record, the
--- condition's negation as far as there is one, and above that the other branch
-pub record Branches (xs : List ℕ) (top n m : ℕ) (negated : Result ℕ NegationError) (e : Walked) (limit : ℕ) (c' t' e' : Core) : Type 0 where
-  pub condition : Lies xs (top + 6) n c'
-  pub first : Lies xs (top + 6 + 3 * n) m t'
-  pub negates : Negates xs c' (top + 9 + 3 * n + 3 * m) limit negated
-  pub other : Lies xs e.at e.count e'
+-- where the negation of an If's condition lies: behind its first branch, and room for a record
+abbrev pub negated_at : Guarded → ℕ
+negated_at g = g.branch.at + 3 * g.branch.count + 3
+
+-- the cores of an If: the condition, the first branch, the condition's negation as far as there is one, and above that the other branch
+pub record Branches (xs : List ℕ) (g : Guarded) (negated : Result ℕ NegationError) (e : Walked) (limit : ℕ) (c' t' e' : Core) : Type 0 where
+  pub condition : Lies xs g.condition.at g.condition.count c'
+  pub first : Lies xs g.branch.at g.branch.count t'
+  pub negates : Negates xs c' (negated_at g) limit negated
+  pub other : Lies xs e.core.at e.core.count e'
   pub within : e.left ≤ limit
 
-pub record BranchRoom (xs : List ℕ) (top n m size : ℕ) (e : Walked) : Type 0 where
-  pub apart : top + 9 + 3 * n + 3 * m + 3 * size ≤ e.at
-  pub room : e.at + 3 * e.count ≤ length xs
+pub record BranchRoom (xs : List ℕ) (g : Guarded) (size : ℕ) (e : Walked) : Type 0 where
+  pub apart : negated_at g + 3 * size ≤ e.core.at
+  pub room : e.core.at + 3 * e.core.count ≤ length xs
 
 -- the same with the negation there: the core n'
-pub record United (xs : List ℕ) (top n m size : ℕ) (e : Walked) (c t n' d : Core) : Type 0 where
-  pub condition : Lies xs (top + 6) n c
-  pub first : Lies xs (top + 6 + 3 * n) m t
-  pub negated : Lies xs (top + 9 + 3 * n + 3 * m) size n'
-  pub other : Lies xs e.at e.count d
+pub record United (xs : List ℕ) (g : Guarded) (size : ℕ) (e : Walked) (c t n' d : Core) : Type 0 where
+  pub condition : Lies xs g.condition.at g.condition.count c
+  pub first : Lies xs g.branch.at g.branch.count t
+  pub negated : Lies xs (negated_at g) size n'
+  pub other : Lies xs e.core.at e.core.count d
 
 -- the cores of an If before its other branch is worked out: a term that begins at a byte
-pub record ReadyElse (s : List ℕ) (from levels next last : ℕ) (xs : List ℕ) (top n m allowance : ℕ) : Type 0 where
+pub record ReadyElse (s : List ℕ) (from levels next last : ℕ) (xs : List ℕ) (g : Guarded) (allowance : ℕ) : Type 0 where
   pub third : Expr
   pub env : Env Core
   pub condition_core : Core
   pub first_core : Core
   pub text : TermsAt s from levels next (third ∷ [])
-  pub condition : Lies xs (top + 6) n condition_core
-  pub first : Lies xs (top + 6 + 3 * n) m first_core
+  pub condition : Lies xs g.condition.at g.condition.count condition_core
+  pub first : Lies xs g.branch.at g.branch.count first_core
   pub bound : Bound xs last env
-  pub below : last ≤ top
-  pub room : top + 8 * (n + m + allowance) + 12 * levels + 12 ≤ length xs
-  pub small : top + 8 * (n + m + allowance) + 12 * levels + 12 < 2 ^ 32
+  pub below : last + 6 ≤ g.condition.at
+  pub room : g.condition.at + 8 * (g.condition.count + g.branch.count + allowance) + 12 * levels + 6 ≤ length xs
+  pub small : g.condition.at + 8 * (g.condition.count + g.branch.count + allowance) + 12 * levels + 6 < 2 ^ 32
+
+abbrev pub ElseReady : List ℕ → Spot → List ℕ → Guarded → Type 0
+ElseReady s w xs g = ReadyElse s w.at w.left w.place w.env.last xs g w.allowance
 
 -- of an If, once its other branch is worked out
-abbrev pub ElseWalked : {s xs : List ℕ} {from levels next last top n m allowance : ℕ} → ReadyElse s from levels next last xs top n m allowance → ℕ → List ℕ → Result Walked Refused → Type 0
-ElseWalked {s} {xs} {from} {levels} {next} {last} {top} {n} {m} {allowance} q place =
+abbrev pub ElseWalked : {s xs : List ℕ} {from levels next last allowance : ℕ} {g : Guarded} → ReadyElse s from levels next last xs g allowance → ℕ → List ℕ → Result Walked Refused → Type 0
+ElseWalked {s} {xs} {from} {levels} {next} {last} {allowance} {g} q place =
     WalkedAs (and_then (desugar q.env q.third next (left allowance)) (λ e. choosing q.condition_core q.first_core e.0 place e.1))
-    (from + length (encode q.third)) (next + records q.third) top (n + m + allowance) (levels + 1) xs
+    (from + length (encode q.third)) (next + records q.third) (g.condition.at - 6) (g.condition.count + g.branch.count + allowance) (levels + 1) xs
 
 -- ## Leaves
 

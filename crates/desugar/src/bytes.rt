@@ -38,11 +38,11 @@ fn write_desugared(
         allowance,
     };
     let walked = crate::walk::desugar_with_env(term, &mut *work, whole)?;
-    let room = out.len();
-    if !crate::core_bytes::fits(work, walked.at, walked.count, room) {
+    let core = walked.core.words(work);
+    if !crate::core_bytes::fits(core, out.len()) {
         return Err(Refusal::BufferTooShort.at(0));
     }
-    let length = crate::core_bytes::write_core(work, walked.at, walked.count, out);
+    let length = crate::core_bytes::write_core(core, out);
     Ok(Desugared {
         length,
         drawn: allowance - walked.left,

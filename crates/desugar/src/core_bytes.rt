@@ -4,7 +4,7 @@ ghost use Rattle.literals.specs.Bits.{bit};
 ghost use Rattle.expr.specs.Terms.{Core};
 ghost use Rattle.expr.specs.Records.{map_of, stands, write_number};
 ghost use Rattle.expr.specs.Form.{encode_core};
-ghost use Rattle.desugar.specs.Memory.{Lies};
+ghost use Rattle.desugar.specs.Memory.{words};
 ghost use Rattle.desugar.specs.CoreBytes.{core_record, CoreShape, Put, Writable, CoreWritten, record_at, bytes_of_record};
 
 use expr::kind::Kind;
@@ -67,15 +67,15 @@ fn write_value(out: &mut [u8], to: usize, v: u32) -> usize
 }
 
 impl CoreRecord {
-    // The record at an index of work memory.
-    fn at(work: &[u32], at: usize) -> Self
-        requires { at + 3 ≤ length work.now }
-        ensures { result ≡ record_at work.now at }
+    // The record at an index of a core's numbers.
+    fn at(core: &[u32], at: usize) -> Self
+        requires { at + 3 ≤ length core.now }
+        ensures { result ≡ record_at core.now at }
     {
         CoreRecord {
-            kind: work[at],
-            field: work[at + 1],
-            value: work[at + 2],
+            kind: core[at],
+            field: core[at + 1],
+            value: core[at + 2],
         }
     }
 
@@ -97,7 +97,8 @@ impl CoreRecord {
             + usize::from(standing(self.value))
     }
 
-    // The bytes of a record that has a kind and a field, where a byte follows; the index behind them.
+    // The bytes of a record that has a kind and a field, where a byte follows; the index behind them. This, the next and the one that chooses
+    // are three ways to the same bytes, so they promise the same.
     fn write_atom(self, out: &mut [u8], to: usize) -> usize
         requires value_in_bounds { to + length (bytes_of_record self) < length out.old }
         requires kind_nonzero { (0 < self.kind) × (0 < self.field) }
@@ -138,36 +139,34 @@ impl CoreRecord {
     }
 }
 
-// How many bytes the core of n records at `at` takes.
-#[tactic(auto, using(crate::proofs::RecordBytes::records_short, crate::proofs::RecordBytes::record_short, crate::proofs::RecordBytes::length_next, crate::proofs::RecordBytes::lies_bytes))]
-pub(crate) fn core_length(work: &[u32], at: usize, n: usize) -> usize
-    requires { at + 3 * n ≤ length work.now }
-    ensures { (c : Core) → Lies work.now at n c → result ≡ length (encode_core c) }
+// How many bytes a core takes.
+#[tactic(auto, using(crate::proofs::RecordBytes::records_short, crate::proofs::RecordBytes::record_short, crate::proofs::RecordBytes::length_next, crate::proofs::RecordBytes::slice_bytes))]
+pub(crate) fn core_length(core: &[u32]) -> usize
+    ensures { (c : Core) → core.now ≡ words c → result ≡ length (encode_core c) }
 {
     let mut total = 0;
-    for j in 0..n {
-        total += CoreRecord::at(work, at + 3 * j).length();
+    for j in 0..core.len() / 3 {
+        total += CoreRecord::at(core, 3 * j).length();
     }
     total
 }
 
-// Whether the bytes of the core of n records at `at` fit a room. They need not be counted where there is room for the longest records.
-pub(crate) fn fits(work: &[u32], at: usize, n: usize, room: usize) -> bool
-    requires { at + 3 * n ≤ length work.now }
-    ensures { (c : Core) → Lies work.now at n c → result ≡ leb (length (encode_core c)) room }
+// Whether a core's bytes fit a room. They need not be counted where there is room for the longest records.
+pub(crate) fn fits(core: &[u32], room: usize) -> bool
+    ensures { (c : Core) → core.now ≡ words c → result ≡ leb (length (encode_core c)) room }
 {
-    MAX_RECORD * n <= room || core_length(work, at, n) <= room
+    MAX_RECORD * (core.len() / 3) <= room || core_length(core) <= room
 }
 
-// The bytes of the core of n records at `at`, to the front of the buffer; how many they are.
-pub(crate) fn write_core(work: &[u32], at: usize, n: usize, out: &mut [u8]) -> usize
-    requires { Writable work.now at n out.old }
-    ensures { (c : Core) → Lies work.now at n c → CoreWritten c out.old out.new result }
+// The bytes of a core, to the front of the buffer; how many they are.
+pub(crate) fn write_core(core: &[u32], out: &mut [u8]) -> usize
+    requires { Writable core.now out.old }
+    ensures { (c : Core) → core.now ≡ words c → CoreWritten c out.old out.new result }
 {
-    let last = n - 1;
+    let last = core.len() / 3 - 1;
     let mut to = 0;
     for j in 0..last {
-        to = CoreRecord::at(work, at + 3 * j).write(out, to);
+        to = CoreRecord::at(core, 3 * j).write(out, to);
     }
-    CoreRecord::at(work, at + 3 * last).write_any(out, to)
+    CoreRecord::at(core, 3 * last).write_any(out, to)
 }

@@ -13,9 +13,9 @@ ghost use Rattle.desugar.specs.BindingWords.{Bound};
 ghost use Rattle.desugar.specs.WalkWords.{LeafReady, WalkedAs};
 ghost use Rattle.desugar.specs.RangedWords.{DrawRoom, EnvRoom, atom_of};
 
-use crate::memory::write_record;
+use crate::memory::{Region, write_record};
+use crate::operands::Walked;
 use crate::walk::Spot;
-use crate::went::Walked;
 use expr::kind::Kind;
 use expr::records::Head;
 use refusals::{Refusal, Refused};
@@ -46,8 +46,10 @@ fn plain(head: Head, work: &mut [u32], spot: Spot) -> Result<Walked, Refused>
     Ok(Walked {
         used: spot.at,
         next: spot.place + 1,
-        at: spot.top,
-        count: 1,
+        core: Region {
+            at: spot.top,
+            count: 1,
+        },
         left: spot.allowance - 1,
     })
 }
@@ -58,8 +60,9 @@ fn variable(head: Head, work: &mut [u32], spot: Spot) -> Result<Walked, Refused>
     ensures { (ρ : Env Core) → Bound work.old spot.env.last ρ
         → WalkedAs (desugar ρ (Var head.name) spot.place (left spot.allowance)) spot.at (spot.place + 1) spot.top spot.allowance 0 work.old work.new result }
 {
-    let Some(core) = spot.env.lookup_variable(work, head.name) else {
-        return Err(spot.env.unbound(work, head.name).at(spot.place));
+    let scope = spot.env.within(work);
+    let Some(core) = scope.lookup_variable(head.name) else {
+        return Err(scope.unbound(head.name).at(spot.place));
     };
     let count = core.count;
     if spot.allowance < count {
@@ -69,8 +72,10 @@ fn variable(head: Head, work: &mut [u32], spot: Spot) -> Result<Walked, Refused>
     Ok(Walked {
         used: spot.at,
         next: spot.place + 1,
-        at: spot.top,
-        count,
+        core: Region {
+            at: spot.top,
+            count,
+        },
         left: spot.allowance - count,
     })
 }

@@ -6,13 +6,11 @@ ghost use Rattle.literals.specs.Results.{literal_bits};
 ghost use Rattle.expr.specs.Kinds.{kind_number};
 ghost use Rattle.expr.specs.Terms.{Atom, One, Op2};
 ghost use Rattle.desugar.specs.Leaves.{bound, chain, each_bit};
-ghost use Rattle.desugar.specs.Rules.{max_range_bits};
 ghost use Rattle.desugar.specs.Memory.{words};
 ghost use Rattle.desugar.specs.Costs.{chain_size, bound_size};
-ghost use Rattle.desugar.specs.LeafWords.{chain_operator, chain_atom, Kinds, ChainRoom, BoundRoom, Ready, Differs, difference_size, stretch, term};
+ghost use Rattle.desugar.specs.LeafWords.{chain_operator, chain_atom, Kinds, Ready, Differs, difference_size, stretch, term};
 
 use crate::memory::{write_bare, write_bit};
-use crate::standing::Standing;
 use expr::kind::Kind;
 use literals::BitSlice;
 
@@ -64,32 +62,38 @@ impl Chain {
     }
 }
 
-// The chain of an atom for each of n bits of a literal, from index `from` on, the first of them at field `start`.
-#[tactic(auto, using(crate::proofs::Chains::bit_more, crate::proofs::Chains::bit_last))]
-pub fn write_chain(
-    work: &mut [u32],
-    at: usize,
-    links: Chain,
-    start: u32,
-    bits: BitSlice<'_>,
-    from: usize,
-    n: usize,
-)
-    requires { ChainRoom work.old at «start» «from» n }
-    ensures { (o : Op2) (f : ℕ → Bool → Atom) → Kinds (chain_operator links) (chain_atom links) o f
-        → work.new ≡ sets work.old at (words (chain o One (each_bit f «start» (stretch (literal_bits bits.entry) «from» n)))) }
-{
-    if n == 0 {
-        write_bare(work, at, Kind::One);
-        return;
+// Bits of a literal, from index `from` on, for the fields from `start` on.
+#[derive(Clone, Copy, Debug)]
+pub struct Stretch<'a> {
+    pub start: u32,
+    pub bits: BitSlice<'a>,
+    pub from: usize,
+    pub count: usize,
+    ghost fields: { start + count ≤ 2 ^ 32 },
+    ghost reach: { from + count ≤ 2 ^ 32 },
+}
+
+impl<'a> Stretch<'a> {
+    // The chain of an atom for each bit.
+    #[tactic(auto, using(crate::proofs::Chains::bit_last))]
+    pub fn write_chain(self, work: &mut [u32], at: usize, links: Chain)
+        requires { at + 3 * chain_size self.count ≤ length work.old }
+        ensures { (o : Op2) (f : ℕ → Bool → Atom) → Kinds (chain_operator links) (chain_atom links) o f
+            → work.new ≡ sets work.old at (words (chain o One (each_bit f self.entry.start (stretch (literal_bits self.entry.bits) self.entry.from self.entry.count)))) }
+    {
+        if self.count == 0 {
+            write_bare(work, at, Kind::One);
+            return;
+        }
+        let last = self.count - 1;
+        for i in 0..last {
+            let b = self.bits.bit(self.from + i);
+            links.write_link(work, at + 6 * i, self.start + i as u32, b);
+        }
+        let b = self.bits.bit(self.from + last);
+        let field = self.start + last as u32;
+        write_bit(work, at + 6 * last, links.atom(), field, b);
     }
-    let last = n - 1;
-    for i in 0..last {
-        let b = bits.bit(from + i);
-        links.write_link(work, at + 6 * i, start + i as u32, b);
-    }
-    let b = bits.bit(from + last);
-    write_bit(work, at + 6 * last, links.atom(), start + last as u32, b);
 }
 
 // Where a bound's next records go, and where the links of its bits from `done` up stand: all terms begin with the same
@@ -107,22 +111,15 @@ pub struct Bound<'a> {
     pub start: u32,
     pub bits: BitSlice<'a>,
     pub width: usize,
+    ghost some: { 0 < width },
+    ghost fields: { start + width ≤ 2 ^ 32 },
 }
 
 impl<'a> Bound<'a> {
-    // How many records the core of the upper or the lower bound has.
-    #[tactic(auto, using(crate::proofs::Chains::length_stretch))]
-    pub fn size(self, upper: bool) -> u64
-        requires { (self.bits.len ≤ self.width) × (0 < self.width) × (self.width ≤ max_range_bits) }
-        ensures { result ≡ bound_size upper (stretch (literal_bits self.entry.bits) 0 self.entry.width) }
-    {
-        Standing::of_bound(self.bits, self.width).bound_size(self.width, upper)
-    }
-
     // The tests that the fields above bit i agree with the bound, and that the field of bit i is v.
     #[tactic(auto, using(crate::proofs::BoundWords::top_more, crate::proofs::BoundWords::top_last, crate::proofs::BoundWords::links_copied))]
     fn write_term(self, work: &mut [u32], progress: Progress, i: usize, v: bool)
-        requires { (progress.to + 3 * chain_size (self.width - i) ≤ length work.old) × (i < progress.done) × (self.start + self.width ≤ 2 ^ 32) × Ready self.start (literal_bits self.bits) self.width work.old progress }
+        requires { (progress.to + 3 * chain_size (self.width - i) ≤ length work.old) × (i < progress.done) × Ready self.start (literal_bits self.bits) self.width work.old progress }
         ensures { work.new ≡ sets work.old progress.to (words (term self.entry.start (literal_bits self.entry.bits) self.entry.width i v)) }
     {
         let count = 6 * (self.width - progress.done);
@@ -144,7 +141,7 @@ impl<'a> Bound<'a> {
         i: usize,
         upper: bool,
     ) -> Progress
-        requires { BoundRoom work.old progress.to (difference_size upper (literal_bits self.bits) self.width i) self.start self.width × (i < progress.done) × Ready self.start (literal_bits self.bits) self.width work.old progress }
+        requires { (progress.to + 3 * difference_size upper (literal_bits self.bits) self.width i ≤ length work.old) × (i < progress.done) × Ready self.start (literal_bits self.bits) self.width work.old progress }
         ensures { Differs upper self.entry.start (literal_bits self.entry.bits) self.entry.width i work.old progress.to work.new result }
     {
         if self.bits.bit(i) != upper {
@@ -164,11 +161,12 @@ impl<'a> Bound<'a> {
         }
     }
 
-    // The tests that a value is at most the bound, if `upper`, or else at least.
+    // The tests that a value is at most the bound, if `upper`, or else at least; the index behind them.
     #[tactic(auto, using(crate::proofs::BoundWords::bound_more, crate::proofs::BoundWords::bound_last, crate::proofs::BoundWords::size_more, crate::proofs::BoundWords::size_below, crate::proofs::BoundWords::size_whole))]
-    pub fn write(self, work: &mut [u32], at: usize, upper: bool)
-        requires { BoundRoom work.old at (bound_size upper (stretch (literal_bits self.bits) 0 self.width)) self.start self.width }
-        ensures { work.new ≡ sets work.old at (words (bound upper self.entry.start (stretch (literal_bits self.entry.bits) 0 self.entry.width))) }
+    pub fn write(self, work: &mut [u32], at: usize, upper: bool) -> usize
+        requires { at + 3 * bound_size upper (stretch (literal_bits self.bits) 0 self.width) ≤ length work.old }
+        ensures written { work.new ≡ sets work.old at (words (bound upper self.entry.start (stretch (literal_bits self.entry.bits) 0 self.entry.width))) }
+        ensures behind { result ≡ at + 3 * bound_size upper (stretch (literal_bits self.entry.bits) 0 self.entry.width) }
     {
         let mut progress = Progress {
             to: at,
@@ -180,5 +178,6 @@ impl<'a> Bound<'a> {
         }
         let b = self.bits.bit(0);
         self.write_term(work, progress, 0, b);
+        progress.to + 3 * (2 * self.width - 1)
     }
 }

@@ -5,18 +5,21 @@ mod between;
 pub mod bindings;
 pub mod bytes;
 mod core_bytes;
+mod guarded;
+pub mod judged;
 mod leaf;
 mod leaves;
 mod masks;
 pub mod memory;
+mod operands;
 pub mod ranged;
 pub mod rules;
 mod standing;
 mod test_negation;
+pub mod uses;
 mod walk;
-mod went;
 
-ghost use Rattle.std.specs.Prelude.{◌≡◌};
+ghost use Rattle.std.specs.Prelude.{◌≡◌, ◌-◌, ◌≤◌};
 ghost use Rattle.desugar.specs.Bindings.{compute_subrange, subrange_answer};
 
 // Fields of a packet, from `start` up to `end`.
@@ -24,6 +27,16 @@ ghost use Rattle.desugar.specs.Bindings.{compute_subrange, subrange_answer};
 pub struct Fields {
     pub start: u32,
     pub end: u32,
+}
+
+impl Fields {
+    // How many they are.
+    pub(crate) fn count(self) -> usize
+        requires { self.start ≤ self.end }
+        ensures { result ≡ self.end - self.start }
+    {
+        (self.end - self.start) as usize
+    }
 }
 
 // The fields of alias[sub_start..sub_end], where the alias has the fields from alias_start up to alias_end, if they lie within it.

@@ -1,5 +1,5 @@
 // Numbers and records of work memory.
-ghost use Rattle.std.specs.Prelude.{◌≡◌, List, [], ◌∷◌, ℕ, ◌+◌, ◌≤◌, length, get_or};
+ghost use Rattle.std.specs.Prelude.{◌≡◌, List, [], ◌∷◌, ℕ, ◌+◌, ◌*◌, ◌^◌, ◌≤◌, ◌<◌, length, get_or, take, drop};
 ghost use Rattle.std.proofs.lemmas.List.Edits.{sets};
 ghost use Rattle.literals.specs.Bits.{bit};
 ghost use Rattle.expr.specs.Kinds.{kind_number};
@@ -7,14 +7,33 @@ ghost use Rattle.desugar.specs.Memory.{Holds, Kept, CopyRoom};
 
 use expr::kind::Kind;
 
-// A number of the work memory, to be used as an offset.
-pub(crate) fn wide(x: u32) -> usize
-    ensures { result ≡ x }
-{
-    x as usize
+// Where a core lies, and how many records it has.
+#[derive(Clone, Copy, Debug, PartialEq, Eq)]
+pub struct Region {
+    pub at: usize,
+    pub count: usize,
 }
 
-// A record of the core. Its kind is a number, as it comes from the records of other cores.
+impl Region {
+    // The index behind it.
+    pub(crate) fn end(self) -> usize
+        requires { self.at + 3 * self.count < 2 ^ 64 }
+        ensures { result ≡ self.at + 3 * self.count }
+    {
+        self.at + 3 * self.count
+    }
+
+    // Its numbers.
+    pub(crate) fn words(self, work: &[u32]) -> &[u32]
+        requires { self.at + 3 * self.count ≤ length work.now }
+        ensures { result.now ≡ take (3 * self.count) (drop self.at work.now) }
+    {
+        &work[self.at..self.at + 3 * self.count]
+    }
+}
+
+// A record of the core. Its kind is a number, as it comes from the records of other cores. This and the two below ask for the room of a record
+// each: the memory is lent, and no type holds how much of it is free.
 pub fn write_record(work: &mut [u32], at: usize, kind: u32, field: u32, value: u32)
     requires { at + 3 ≤ length work.old }
     ensures { work.new ≡ sets work.old at (kind ∷ field ∷ value ∷ []) }

@@ -1,19 +1,16 @@
 // The rules 14 to 21, on a use of a range.
-ghost use Rattle.std.specs.Prelude.{◌≡◌, ℕ, length};
-ghost use Rattle.literals.specs.Bits.{Bits};
+ghost use Rattle.std.specs.Prelude.{◌≡◌, ℕ};
 ghost use Rattle.literals.specs.Patterns.{Cidr, Wildcard, IpRange};
 ghost use Rattle.literals.specs.Results.{literal_bits};
 ghost use Rattle.expr.specs.Terms.{Where};
 ghost use Rattle.expr.specs.Form.{pattern_of};
 ghost use Rattle.desugar.specs.Rules.{literal_rule, pattern_rule, range_rule};
 ghost use Rattle.desugar.specs.WalkWords.{where_of, use_of};
-ghost use Rattle.desugar.specs.RangedWords.{Whole, record_in, rule_answer, is_direct};
+ghost use Rattle.desugar.specs.RangedWords.{record_in, rule_answer, is_direct};
 
 use crate::Fields;
-use crate::memory::wide;
-use crate::ranged::Use;
+use crate::uses::Use;
 use expr::kind::{Kind, Pattern};
-use literals::BitSlice;
 use refusals::Refusal;
 use std::cmp::Ordering;
 
@@ -21,50 +18,49 @@ use std::cmp::Ordering;
 const MAX_RANGE_BITS: usize = 128;
 
 // 15 and 16: a literal for n bits.
-fn literal_rule(direct: bool, bits: usize, n: usize) -> Result<(), Refusal>
-    ensures { (w : Where) (a : Bits) (at : ℕ) → is_direct w ≡ direct → length a ≡ bits → rule_answer result at ≡ literal_rule w a n at }
+fn literal_rule(u: Use<'_>, direct: bool, n: usize) -> Result<(), Refusal>
+    ensures { (w : Where) (at : ℕ) → is_direct w ≡ direct → rule_answer result at ≡ literal_rule w (literal_bits u.entry.a) n at }
 {
-    if direct && bits != n {
+    if direct && u.a.len != n {
         return Err(Refusal::LiteralWidth);
     }
-    if n < bits {
+    if n < u.a.len {
         return Err(Refusal::LiteralTooLong);
     }
     Ok(())
 }
 
 // 17 and 18: an address and its prefix for n bits.
-fn cidr_rule(bits: usize, prefix: usize, n: usize) -> Result<(), Refusal>
-    ensures { (a : Bits) (at : ℕ) → length a ≡ bits → rule_answer result at ≡ pattern_rule (Cidr a prefix) n at }
+fn cidr_rule(u: Use<'_>, n: usize) -> Result<(), Refusal>
+    ensures { (at : ℕ) → rule_answer result at ≡ pattern_rule (Cidr (literal_bits u.entry.a) u.entry.number) n at }
 {
-    if n < prefix {
+    if n < u.number as usize {
         return Err(Refusal::CidrPrefix);
     }
-    if bits != n {
+    if u.a.len != n {
         return Err(Refusal::CidrAddress);
     }
     Ok(())
 }
 
 // 19: an address and its mask for n bits.
-fn wildcard_rule(bits: usize, mask_bits: usize, n: usize) -> Result<(), Refusal>
-    ensures { (a m : Bits) (at : ℕ) → length a ≡ bits → length m ≡ mask_bits → rule_answer result at ≡ pattern_rule (Wildcard a m) n at }
+fn wildcard_rule(u: Use<'_>, n: usize) -> Result<(), Refusal>
+    ensures { (at : ℕ) → rule_answer result at ≡ pattern_rule (Wildcard (literal_bits u.entry.a) (literal_bits u.entry.b)) n at }
 {
-    if bits != n || mask_bits != n {
+    if u.a.len != n || u.b.len != n {
         return Err(Refusal::WildcardWidth);
     }
     Ok(())
 }
 
 // 20 and 21: the bounds of a range of values for n bits.
-fn values_rule(low: BitSlice<'_>, high: BitSlice<'_>, n: usize) -> Result<(), Refusal>
-    ensures { (at : ℕ) → length (literal_bits low.entry) ≡ low.entry.len → length (literal_bits high.entry) ≡ high.entry.len
-        → rule_answer result at ≡ pattern_rule (IpRange (literal_bits low.entry) (literal_bits high.entry)) n at }
+fn values_rule(u: Use<'_>, n: usize) -> Result<(), Refusal>
+    ensures { (at : ℕ) → rule_answer result at ≡ pattern_rule (IpRange (literal_bits u.entry.a) (literal_bits u.entry.b)) n at }
 {
-    if MAX_RANGE_BITS < n || n < low.len || n < high.len {
+    if MAX_RANGE_BITS < n || n < u.a.len || n < u.b.len {
         return Err(Refusal::IpRangeWidth);
     }
-    if low.compare(high, n).order == Ordering::Greater {
+    if u.a.compare(u.b, n).order == Ordering::Greater {
         return Err(Refusal::IpRangeOrder);
     }
     Ok(())
@@ -72,29 +68,27 @@ fn values_rule(low: BitSlice<'_>, high: BitSlice<'_>, n: usize) -> Result<(), Re
 
 // 15 and 17 to 21: a pattern for n bits.
 fn pattern_rule(u: Use<'_>, n: usize) -> Result<(), Refusal>
-    requires { Whole u }
     ensures { (at : ℕ) → rule_answer result at ≡ pattern_rule (pattern_of (record_in u.entry)) n at }
 {
     match u.pattern {
-        Pattern::Exact => literal_rule(false, u.a.len, n),
-        Pattern::Cidr => cidr_rule(u.a.len, wide(u.number), n),
-        Pattern::Wildcard => wildcard_rule(u.a.len, u.b.len, n),
-        Pattern::IpRange => values_rule(u.a, u.b, n),
+        Pattern::Exact => literal_rule(u, false, n),
+        Pattern::Cidr => cidr_rule(u, n),
+        Pattern::Wildcard => wildcard_rule(u, n),
+        Pattern::IpRange => values_rule(u, n),
     }
 }
 
 // 14 first, then the rules on the literal or the pattern.
 pub fn range_rule(u: Use<'_>, fields: Fields) -> Result<(), Refusal>
-    requires { Whole u }
     ensures { (at : ℕ) → rule_answer result at ≡ range_rule (where_of (record_in u.entry)) (use_of (record_in u.entry)) (fields.start, fields.end) at }
 {
     if fields.end < fields.start {
         return Err(Refusal::RangeEndBelowStart);
     }
-    let n = wide(fields.end - fields.start);
+    let n = fields.count();
     match u.kind {
-        Kind::VarAssign | Kind::VarTest => literal_rule(false, u.a.len, n),
-        Kind::BitRangeAssign | Kind::BitRangeTest => literal_rule(true, u.a.len, n),
+        Kind::VarAssign | Kind::VarTest => literal_rule(u, false, n),
+        Kind::BitRangeAssign | Kind::BitRangeTest => literal_rule(u, true, n),
         _ => pattern_rule(u, n),
     }
 }

@@ -6,6 +6,7 @@ ghost use Rattle.desugar.specs.Costs.{bound_size};
 ghost use Rattle.desugar.specs.LeafWords.{Stands, stretch};
 ghost use Rattle.desugar.specs.Rules.{max_range_bits};
 
+use crate::leaves::chain_size;
 use literals::BitSlice;
 
 // How many bits stand, and how many records their terms have, each with an operator.
@@ -75,7 +76,7 @@ impl Standing {
 
     // Those of a bound of `width` bits: a literal, and above it bits that are false.
     #[tactic(auto, using(crate::proofs::StandingBits::padded_few))]
-    pub(crate) fn of_bound(bits: BitSlice<'_>, width: usize) -> Self
+    pub fn of_bound(bits: BitSlice<'_>, width: usize) -> Self
         requires { (bits.len ≤ width) × (width ≤ max_range_bits) }
         ensures { Stands (stretch (literal_bits bits.entry) 0 width) result }
     {
@@ -89,14 +90,14 @@ impl Standing {
 
     // How many records the core of a bound has whose bits these are: the terms of those that stand, or of the others.
     #[tactic(auto, using(crate::proofs::StandingBits::both_all, crate::proofs::StandingBits::all_bits_are, crate::proofs::StandingBits::differences_most))]
-    pub(crate) fn bound_size(self, width: usize, upper: bool) -> u64
-        requires { ((a : Bits) × (length a ≡ width) × Stands a self) × (0 < width) × (width ≤ max_range_bits) }
+    pub fn bound_size(self, width: u64, upper: bool) -> u64
+        requires { ((a : Bits) × (length a ≡ width) × Stands a self) × (width ≤ max_range_bits) }
         ensures { (a : Bits) → length a ≡ width → Stands a self → result ≡ bound_size upper a }
     {
-        let w = width as u64;
+        let exact = chain_size(width);
         if upper {
-            return 2 * w - 1 + self.size;
+            return exact + self.size;
         }
-        2 * w - 1 + (w * (w + 1) - self.size)
+        exact + (width * (width + 1) - self.size)
     }
 }

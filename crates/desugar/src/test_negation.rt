@@ -24,23 +24,23 @@ pub enum NegationError {
     TooLarge,
 }
 
-// The size of the negation of the core at `p.at`, which is written to `to`: to its own place, below it, or past its end. The regions from
+// The size of the negation of a core, which is written to `to`: to its own place, below it, or past its end. The regions from
 // `p.notes` on are room for the passes.
 pub fn negation(work: &mut [u32], p: Places, to: usize) -> Result<usize, NegationError>
     requires room { p.out + 3 * p.limit ≤ length work.old }
-    requires apart { (to ≤ p.notes) × ((to ≤ p.at) ⊎ (p.at + 3 * p.n ≤ to)) }
-    requires lies { (c : Core) × Lies work.old p.at p.n c }
+    requires apart { (to ≤ p.notes) × ((to ≤ p.core.at) ⊎ (p.core.at + 3 * p.core.count ≤ to)) }
+    requires lies { (c : Core) × Lies work.old p.core.at p.core.count c }
     ensures kept { Kept to work.old work.new }
-    ensures negates { (c : Core) → Lies work.old p.at p.n c → Negates work.new c to p.limit result }
+    ensures negates { (c : Core) → Lies work.old p.core.at p.core.count c → Negates work.new c to p.limit result }
 {
-    if plain::is_plain(work, p.at, p.n) {
-        if p.limit < p.n {
+    if plain::is_plain(p.core.words(work)) {
+        if p.limit < p.core.count {
             return Err(NegationError::TooLarge);
         }
-        plain::negate_plain(work, p.at, p.n, to);
-        return Ok(p.n);
+        plain::negate_plain(work, p.core, to);
+        return Ok(p.core.count);
     }
-    if !tested::is_test(work, p.at, p.n) {
+    if !tested::is_test(p.core.words(work)) {
         return Err(NegationError::NotTest);
     }
     measured::measure(work, p);

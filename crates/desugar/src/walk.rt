@@ -1,14 +1,19 @@
 // The walk over a term: recursion over its parts, each child's core on top of the stack. The functions that take a record apart are inlined, so
 // that a level of the term is one frame of the machine's stack.
+// Netkat's check walks a term in this shape too. One walk over a trait is no plainer: between the children and behind them cores are moved,
+// dropped, joined, negated and paid for here, and there two bits are joined, so the trait would have a method and a law for each of these
+// steps of seven nodes, and both walks would stand written out in its two impls.
+// What a node with one child asks for is of lent bytes, memory and spot together: it stands in the clauses of three functions and in no type.
 ghost use Rattle.std.specs.Prelude.{◌≡◌, cond};
 ghost use Rattle.expr.specs.Terms.{Unary, Binary, TestNegation, IfThenElse, Let, LetBitRange};
 ghost use Rattle.expr.specs.Kinds.{kind_number};
-ghost use Rattle.desugar.specs.WalkWords.{Ready, ReadyOne, ReadyTwo, ReadyThree, ReadyElse, Operator1, Operator2, TermWalked, OneWalked, TwoWalked, ThreeWalked, ElseWalked};
+ghost use Rattle.desugar.specs.WalkWords.{TermReady, OneReady, TwoReady, ThreeReady, ElseReady, Operator1, Operator2, TermWalked, OneWalked, TwoWalked, ThreeWalked, ElseWalked};
 
 use crate::Fields;
 use crate::bindings::Bindings;
+use crate::guarded::Guarded;
+use crate::operands::Walked;
 use crate::test_negation::Places;
-use crate::went::Walked;
 use expr::kind::Kind;
 use refusals::Refused;
 
@@ -27,8 +32,8 @@ pub struct Spot {
 // The core of the term that is next. It takes the whole bytes and an index, which is faster than a new slice for each call.
 #[cycle(walk)]
 pub(crate) fn desugar_with_env(s: &[u8], work: &mut [u32], spot: Spot) -> Result<Walked, Refused>
-    requires { Ready s.now spot.at spot.left spot.place spot.env.last spot.top spot.allowance work.old }
-    ensures { (q : Ready s.now spot.at spot.left spot.place spot.env.last spot.top spot.allowance work.old)
+    requires { TermReady s.now spot work.old }
+    ensures { (q : TermReady s.now spot work.old)
         → TermWalked q work.new result }
 {
     let head = expr::records::read_record_at(s, spot.at, spot.place)?;
@@ -63,8 +68,8 @@ pub(crate) fn desugar_with_env(s: &[u8], work: &mut [u32], spot: Spot) -> Result
 // Complement, Star, LtlNext: the record goes right below its operand, wherever that lies.
 #[cycle(walk)]
 fn unary(kind: Kind, s: &[u8], work: &mut [u32], spot: Spot) -> Result<Walked, Refused>
-    requires { Operator1 (kind_number kind) × ReadyOne s.now spot.at spot.left spot.place spot.env.last spot.top spot.allowance work.old }
-    ensures { (k : Operator1 (kind_number kind)) (q : ReadyOne s.now spot.at spot.left spot.place spot.env.last spot.top spot.allowance work.old)
+    requires { Operator1 (kind_number kind) × OneReady s.now spot work.old }
+    ensures { (k : Operator1 (kind_number kind)) (q : OneReady s.now spot work.old)
         → OneWalked q (Unary k.o) work.new result }
 {
     let a = desugar_with_env(
@@ -76,15 +81,15 @@ fn unary(kind: Kind, s: &[u8], work: &mut [u32], spot: Spot) -> Result<Walked, R
             ..spot
         },
     )?;
-    crate::went::seal(kind, spot.place, work, a)
+    crate::operands::seal(kind, spot.place, work, a)
 }
 
 // TestNegation.
 #[cycle(walk)]
 #[inline(always)]
 fn test_negation(s: &[u8], work: &mut [u32], spot: Spot) -> Result<Walked, Refused>
-    requires { ReadyOne s.now spot.at spot.left spot.place spot.env.last spot.top spot.allowance work.old }
-    ensures { (q : ReadyOne s.now spot.at spot.left spot.place spot.env.last spot.top spot.allowance work.old)
+    requires { OneReady s.now spot work.old }
+    ensures { (q : OneReady s.now spot work.old)
         → OneWalked q TestNegation work.new result }
 {
     let a = desugar_with_env(
@@ -95,7 +100,7 @@ fn test_negation(s: &[u8], work: &mut [u32], spot: Spot) -> Result<Walked, Refus
             ..spot
         },
     )?;
-    crate::went::negate_core(spot.place, work, a)
+    crate::operands::negate_core(spot.place, work, a)
 }
 
 // Where the second operand's core goes: behind the first, or in its place.
@@ -112,8 +117,8 @@ fn second_at(dropped: bool, top: usize, end: usize) -> usize
 #[cycle(walk)]
 #[inline(always)]
 fn binary(kind: Kind, s: &[u8], work: &mut [u32], spot: Spot) -> Result<Walked, Refused>
-    requires { Operator2 (kind_number kind) × ReadyTwo s.now spot.at spot.left spot.place spot.env.last spot.top spot.allowance work.old }
-    ensures { (k : Operator2 (kind_number kind)) (q : ReadyTwo s.now spot.at spot.left spot.place spot.env.last spot.top spot.allowance work.old)
+    requires { Operator2 (kind_number kind) × TwoReady s.now spot work.old }
+    ensures { (k : Operator2 (kind_number kind)) (q : TwoReady s.now spot work.old)
         → TwoWalked q (Binary k.o) work.new result }
 {
     let a = desugar_with_env(
@@ -125,10 +130,9 @@ fn binary(kind: Kind, s: &[u8], work: &mut [u32], spot: Spot) -> Result<Walked, 
             ..spot
         },
     )?;
-    let at = spot.top + 3;
-    crate::went::settle(&mut *work, a.at, at, a.count);
-    let dropped = crate::went::drops(kind, work, at, a.count);
-    let to = second_at(dropped, spot.top, at + 3 * a.count);
+    let first = crate::operands::settle(&mut *work, a.core, spot.top + 3);
+    let dropped = crate::operands::drops(kind, first.words(work));
+    let to = second_at(dropped, spot.top, first.end());
     let b = desugar_with_env(
         s,
         &mut *work,
@@ -143,15 +147,15 @@ fn binary(kind: Kind, s: &[u8], work: &mut [u32], spot: Spot) -> Result<Walked, 
     if dropped {
         return Ok(b);
     }
-    crate::went::join(kind, spot.place, work, spot.top, a.count, b)
+    crate::operands::join(kind, spot.place, work, first, b)
 }
 
 // IfThenElse: its condition and its first branch. Room for two records is left below the condition.
 #[cycle(walk)]
 #[inline(always)]
 fn if_then_else(s: &[u8], work: &mut [u32], spot: Spot) -> Result<Walked, Refused>
-    requires { ReadyThree s.now spot.at spot.left spot.place spot.env.last spot.top spot.allowance work.old }
-    ensures { (q : ReadyThree s.now spot.at spot.left spot.place spot.env.last spot.top spot.allowance work.old)
+    requires { ThreeReady s.now spot work.old }
+    ensures { (q : ThreeReady s.now spot work.old)
         → ThreeWalked q IfThenElse work.new result }
 {
     let c = desugar_with_env(
@@ -163,9 +167,8 @@ fn if_then_else(s: &[u8], work: &mut [u32], spot: Spot) -> Result<Walked, Refuse
             ..spot
         },
     )?;
-    let at = spot.top + 6;
-    crate::went::settle(&mut *work, c.at, at, c.count);
-    let end = at + 3 * c.count;
+    let condition = crate::operands::settle(&mut *work, c.core, spot.top + 6);
+    let end = condition.end();
     let t = desugar_with_env(
         s,
         &mut *work,
@@ -177,18 +180,18 @@ fn if_then_else(s: &[u8], work: &mut [u32], spot: Spot) -> Result<Walked, Refuse
             ..spot
         },
     )?;
-    crate::went::settle(&mut *work, t.at, end, t.count);
+    let branch = crate::operands::settle(&mut *work, t.core, end);
+    let guarded = Guarded { condition, branch };
     let other = Spot {
         at: t.used,
         place: t.next,
         allowance: t.left,
         ..spot
     };
-    otherwise(s, work, other, spot.place, c.count, t.count)
+    otherwise(s, work, other, spot.place, guarded)
 }
 
-// IfThenElse, whose record has the index `place`: the negation of its condition, which has n records, and its other branch, which is next; the
-// first branch has m.
+// IfThenElse, whose record has the index `place`, behind its first branch: the negation of its condition, and its other branch, which is next.
 #[cycle(walk)]
 #[inline(always)]
 fn otherwise(
@@ -196,35 +199,33 @@ fn otherwise(
     work: &mut [u32],
     spot: Spot,
     place: usize,
-    n: usize,
-    m: usize,
+    g: Guarded,
 ) -> Result<Walked, Refused>
-    requires { ReadyElse s.now spot.at spot.left spot.place spot.env.last work.old spot.top n m spot.allowance }
-    ensures { (q : ReadyElse s.now spot.at spot.left spot.place spot.env.last work.old spot.top n m spot.allowance)
+    requires { ElseReady s.now spot work.old g }
+    ensures { (q : ElseReady s.now spot work.old g)
         → ElseWalked q place work.new result }
 {
-    let to = spot.top + 9 + 3 * n + 3 * m;
-    let modes = to + n;
+    let to = g.branch.end() + 3;
+    let modes = to + g.condition.count;
     let places = Places {
-        at: spot.top + 6,
-        n,
+        core: g.condition,
         notes: to,
         modes,
-        out: modes + n,
+        out: modes + g.condition.count,
         limit: spot.allowance,
     };
     let outcome = crate::test_negation::negation(&mut *work, places, to);
-    let above = to + 3 * crate::went::negated_size(outcome);
+    let above = to + 3 * crate::operands::negated_size(outcome);
     let e = desugar_with_env(s, &mut *work, Spot { top: above, ..spot })?;
-    crate::went::choose(place, work, spot.top, n, m, outcome, e)
+    crate::operands::choose(place, work, g, outcome, e)
 }
 
 // Let: the definition's core stays below its frame while the body is worked out.
 #[cycle(walk)]
 #[inline(always)]
 fn let_variable(name: u32, s: &[u8], work: &mut [u32], spot: Spot) -> Result<Walked, Refused>
-    requires { ReadyTwo s.now spot.at spot.left spot.place spot.env.last spot.top spot.allowance work.old }
-    ensures { (q : ReadyTwo s.now spot.at spot.left spot.place spot.env.last spot.top spot.allowance work.old)
+    requires { TwoReady s.now spot work.old }
+    ensures { (q : TwoReady s.now spot work.old)
         → TwoWalked q (Let name) work.new result }
 {
     let d = desugar_with_env(
@@ -235,11 +236,9 @@ fn let_variable(name: u32, s: &[u8], work: &mut [u32], spot: Spot) -> Result<Wal
             ..spot
         },
     )?;
-    crate::went::settle(&mut *work, d.at, spot.top, d.count);
-    let end = spot.top + 3 * d.count;
-    let inner = spot
-        .env
-        .with_variable(&mut *work, end, name, spot.top, d.count);
+    let core = crate::operands::settle(&mut *work, d.core, spot.top);
+    let end = core.end();
+    let inner = spot.env.with_variable(&mut *work, end, name, core);
     let body = Spot {
         at: d.used,
         place: d.next,
@@ -261,13 +260,11 @@ fn let_bit_range(
     work: &mut [u32],
     spot: Spot,
 ) -> Result<Walked, Refused>
-    requires { ReadyOne s.now spot.at spot.left spot.place spot.env.last spot.top spot.allowance work.old }
-    ensures { (q : ReadyOne s.now spot.at spot.left spot.place spot.env.last spot.top spot.allowance work.old)
+    requires { OneReady s.now spot work.old }
+    ensures { (q : OneReady s.now spot work.old)
         → OneWalked q (LetBitRange name fields.start fields.end) work.new result }
 {
-    let inner = spot
-        .env
-        .with_alias(&mut *work, spot.top, name, fields.start, fields.end);
+    let inner = spot.env.with_alias(&mut *work, spot.top, name, fields);
     let body = Spot {
         place: spot.place + 1,
         env: inner,

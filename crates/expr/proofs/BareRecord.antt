@@ -14,11 +14,12 @@ use Rattle.literals.proofs.Logic.{or_right}
 use Rattle.literals.proofs.Codec.{IfGot, if_got, got_bind, got_ask}
 use Rattle.expr.specs.Records.{is_match}
 use Rattle.expr.specs.Form.{plain_record}
-use Rattle.expr.specs.Results.{none_foreign, read_kind, KindFound, BareHead, RecordFound}
-use Rattle.expr.specs.declared.records.Opened.{Opened}
+use Rattle.expr.specs.Results.{none_foreign, ahead, AtStart, read_kind, KindFound, BareHead, RecordFound}
+use Rattle.expr.specs.declared.kind.Kind.{Kind}
+use Rattle.expr.specs.declared.reader.Reader.{Reader}
 use Rattle.expr.specs.declared.records.Head.{Head}
-use Rattle.expr.proofs.Steps.{onward, Tested}
-use Rattle.expr.proofs.Stages.{after_kind, record_stages}
+use Rattle.expr.proofs.Steps.{Tested}
+use Rattle.expr.proofs.Stages.{after_kind, Left, at_range}
 
 -- behind the map and the kind nothing is read
 bare_is : (k : ℕ) (bs : List ℕ) → got (plain_record k) bs ≡ after_kind 1 k bs
@@ -42,18 +43,24 @@ bare_size (m ∷ bs) =
     got_bind (OneByte bs m) _ (Tested (bit_at 0 m) (λ k. leb k 26) 2 bs) _ (kind_byte m (bit_at 0 m) bs refl)
     (λ k rest h. got_ask _ (none_foreign k m) 3 _ rest (λ _ e. ap suc (h e)))
 
-module _ (s : List ℕ) {k : Opened} (f : KindFound s (Ok k)) (e : k.map ≡ 1) where
-  long : length s ≡ suc (suc (length (drop k.next s)))
-  long = if_got (λ p rest. p.0 ≡ 1 → length s ≡ suc (suc (length rest))) (read_kind s) (bare_size s) (sym f.answer) e
+module _ {s : List ℕ} {r r' : Reader} (first : AtStart s r) {k : ℕ × Kind} (f : KindFound r r' (Ok k)) (e : k.0 ≡ 1) where
+  abbrev left : Left s 1 (after_kind k.0 (kind_number k.1)) r'
+  left = at_range first f
+
+  front : ahead r ≡ s
+  front = λ i. drop (first.first i) (first.same i)
+
+  long : length s ≡ suc (suc (length (ahead r')))
+  long = if_got (λ p rest. p.0 ≡ 1 → length s ≡ suc (suc (length rest))) (read_kind s) (bare_size s) (ap read_kind (sym front) ∙ sym f.answer) e
 
   -- the head of a kind alone is the record's
-  pub bare_found : {h : Head} → BareHead (kind_number k.kind) h → RecordFound s (Ok h)
+  pub bare_found : {h : Head} → BareHead (kind_number k.1) h → RecordFound s (Ok h)
   bare_found {h} b =
-      let next : h.size ≡ k.next = omega (arith, b.size, long, length-drop k.next s, f.inside.1) in
+      let next : h.size ≡ r'.at = omega (arith, b.size, long, length-drop r'.at r'.bytes.now, ap length left.same, r'.inside) in
       record {
         answer =
-            (λ i. got (b.same s i) (drop (next i) s))
-            ∙ onward _ f.answer (bare_is (kind_number k.kind) (drop k.next s) ∙ ap (λ m. after_kind m (kind_number k.kind) (drop k.next s)) (sym e))
-            ∙ sym (record_stages s);
+            (λ i. got (b.same s i) (drop (next i) (sym left.same i))) ∙ bare_is (kind_number k.1) (ahead r')
+            ∙ ap (λ m. after_kind m (kind_number k.1) (ahead r')) (sym e)
+            ∙ left.answer;
         inside = b.inside s (omega (arith, long));
       }

@@ -1,6 +1,11 @@
 -- The kinds are the numbers 0 to 26, the patterns 0 to 3.
-use Prim.Native.Nat.{◌≤◌}
+use mathlib.Core.Path.{◌≡◌, refl}
+use mathlib.Core.Bool.{Bool, true, false, ◌&&◌}
+use Prim.Native.Nat.{ℕ, ◌≤◌, ◌<◌}
 use native.Mathlib.Omega.{arith}
+use borrow.Author.Tests.{lt-leb}
+use lib.Dec.{leb}
+use Rattle.expr.specs.Terms.{test_kind}
 use Rattle.expr.specs.Kinds.{kind_number, pattern_number}
 use Rattle.expr.specs.declared.kind.Kind.{Kind}
 use Rattle.expr.specs.declared.kind.Kind.TheVariants.{Zero, One, Top, Dup, End, Assign, Test, Union, Intersect, Xor, Difference, Sequence, LtlUntil, Complement, Star, LtlNext, TestNegation, IfThenElse, Let, LetBitRange, Var, VarAssign, VarTest, BitRangeAssign, BitRangeTest, BitRangeMatch, VarMatch}
@@ -35,6 +40,14 @@ kind_small BitRangeAssign = omega arith
 kind_small BitRangeTest = omega arith
 kind_small BitRangeMatch = omega arith
 kind_small VarMatch = omega arith
+
+-- a number of no kind is not a test's
+pub no_test : (k : ℕ) → 26 < k → false ≡ test_kind k
+no_test k h = rw (lt-leb k 1 (omega arith), lt-leb k 11 (omega arith)) (no_second (leb 6 k))
+  where
+    no_second : (b : Bool) → false ≡ (b && false)
+    no_second true = refl
+    no_second false = refl
 
 pub pattern_small : (p : Pattern) → pattern_number p ≤ 3
 pattern_small Exact = omega arith

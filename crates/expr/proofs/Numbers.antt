@@ -1,7 +1,7 @@
--- A number of n bytes that is read from a place in memory.
-use mathlib.Core.Path.{◌≡◌, refl}
+-- A number of n bytes that a reader reads.
+use mathlib.Core.Path.{◌≡◌, refl, sym, subst, ◌∙◌}
 use mathlib.Core.Bool.{Bool, true, false}
-use mathlib.Core.List.{List, [], ◌∷◌}
+use mathlib.Core.List.{List}
 use Prim.Native.Nat.{ℕ, zero, suc, ◌+◌, ◌-◌, ◌*◌, ◌%◌, ◌^◌, ◌≤◌, ◌<◌}
 use native.Mathlib.Nat.{div-one, pow-succ'}
 use native.Mathlib.Omega.{arith}
@@ -12,25 +12,14 @@ use lib.Seq.{drop-cons, drop-drop}
 use Rattle.std.specs.Prelude.{Ok, Err}
 use Rattle.refusals.specs.declared.Refusal.TheVariants.{EndsEarly, ZeroWritten}
 use Rattle.literals.specs.Bits.{bit_at, number_of}
-use Rattle.literals.specs.Reading.{got, fault, byte}
+use Rattle.literals.specs.Reading.{got, byte}
 use Rattle.literals.proofs.Codec.{chunk_take, chunk_lacks}
-use Rattle.expr.specs.Results.{NumberFound}
-
--- ## A byte at the front
-
-pub byte_lacking : (s : List ℕ) → length s ≡ 0 → fault 1 ≡ byte s
-byte_lacking [] e = refl
-byte_lacking (b ∷ s) e = absurd (omega arith)
-
-pub byte_read : (s : List ℕ) → (length s ≡ 0 → ⊥) → got (get_or s 0 0) (drop 1 s) ≡ byte s
-byte_read [] n = absurd (n refl)
-byte_read (b ∷ s) n = refl
+use Rattle.expr.specs.Results.{ahead, NumberFound}
+use Rattle.expr.specs.declared.reader.Reader.{Reader}
 
 -- bit 0 is whether the number is odd
 pub bit_zero : (m : ℕ) → eqb (m % 2) 1 ≡ bit_at 0 m
 bit_zero m = rw (div-one m) refl
-
--- ## Numbers
 
 -- the first of the bytes is the lowest
 spelled : (n i j : ℕ) (s : List ℕ) → i < length s → j ≡ suc i → number_of (take (suc n) (drop i s)) ≡ get_or s i 0 + 256 * number_of (take n (drop j s))
@@ -72,21 +61,46 @@ module _ {n at : ℕ} {s : List ℕ} where
           below = rw (count, pow-succ' 256 (n - i)) (omega (arith, l.below));
         }
 
-module _ (n at : ℕ) (s : List ℕ) {b : Bool} where
-  pub number_absent : b ≡ false → at ≤ length s → NumberFound n b at s (Ok (record { value = 0; next = at }))
-  number_absent e h = record { answer = rw e refl; inside = (omega arith, h, power_some n) }
+  -- all are read
+  module _ {i v : ℕ} (l : Spelled n at i s v) (none : i ≤ 0) where
+    count : n - i ≡ n
+    count = omega arith
 
-  pub number_lacking : b ≡ true → length s - at < n → NumberFound n b at s (Err EndsEarly)
-  number_lacking e h = record { answer = rw (e, chunk_lacks n (drop at s) (simp length-drop h)) refl; inside = omega arith }
+    place : at + i ≡ at
+    place = omega arith
 
-  module _ (stands : b ≡ true) (fits : n ≤ length s - at) (v : ℕ) (spells : number_of (take n (drop at s)) ≡ v) where
-    pub number_zero : v ≡ 0 → NumberFound n b at s (Err ZeroWritten)
+    pub all_spelled : number_of (take n (drop at s)) ≡ v
+    all_spelled = (λ k. number_of (take (sym count k) (drop (sym place k) s))) ∙ l.spells
+
+    pub all_small : v < 256 ^ n
+    all_small = subst (λ k. v < 256 ^ k) count l.below
+
+module _ (n : ℕ) (r : Reader) {b : Bool} where
+  pub number_absent : b ≡ false → NumberFound n b r r (Ok 0)
+  number_absent e = record { found = record { answer = rw e refl; same = refl; inside = omega arith }; small = power_some n }
+
+  pub number_lacking : b ≡ true → length r.bytes.now - r.at < n → NumberFound n b r r (Err EndsEarly)
+  number_lacking e h =
+      record { found = record { answer = rw (e, chunk_lacks n (ahead r) (simp length-drop h)) refl; same = refl; inside = omega arith }; small = tt }
+
+  module _ (stands : b ≡ true) (fits : n ≤ length r.bytes.now - r.at) (v : ℕ) (spells : number_of (take n (ahead r)) ≡ v) where
+    pub number_zero : v ≡ 0 → NumberFound n b r r (Err ZeroWritten)
     number_zero z =
-        record { answer = rw (stands, chunk_take n (drop at s) (simp length-drop fits), spells, z) refl; inside = omega arith }
-
-    pub number_value : (v ≡ 0 → ⊥) → v < 256 ^ n → at ≤ length s → NumberFound n b at s (Ok (record { value = v; next = at + n }))
-    number_value z small h =
         record {
-          answer = rw (stands, chunk_take n (drop at s) (simp length-drop fits), spells, ne_eqb v 0 z, drop-drop n at s) refl;
-          inside = (omega arith, omega arith, small);
+          found = record { answer = rw (stands, chunk_take n (ahead r) (simp length-drop fits), spells, z) refl; same = refl; inside = omega arith };
+          small = tt;
+        }
+
+    pub number_value : (v ≡ 0 → ⊥) → v < 256 ^ n → {r' : Reader} → r'.bytes.now ≡ r.bytes.now → r'.at ≡ r.at + n → NumberFound n b r r' (Ok v)
+    number_value z small {r'} same next =
+        record {
+          found =
+              record {
+                answer =
+                    (λ i. got v (drop (next i) (same i)))
+                    ∙ rw (stands, chunk_take n (ahead r) (simp length-drop fits), spells, ne_eqb v 0 z, drop-drop n r.at r.bytes.now) refl;
+                same = same;
+                inside = omega (arith, next);
+              };
+          small = small;
         }

@@ -3,13 +3,12 @@ use mathlib.Core.Path.{◌≡◌, refl, ap, ◌∙◌}
 use mathlib.Core.Bool.{Bool, true, false, cond}
 use mathlib.Core.List.{List}
 use Prim.Native.Nat.{ℕ}
-use lib.ListN.{drop}
 use Rattle.std.specs.Prelude.{Ok, Err}
 use Rattle.refusals.specs.Refusals.{number_of}
 use Rattle.refusals.specs.declared.Refusal.{Refusal}
 use Rattle.literals.specs.Reading.{Read, got, fault, Reads, go_on, ◌>>=◌, give, ask, nonzero}
-use Rattle.expr.specs.Results.{NumberFound}
-use Rattle.expr.specs.declared.records.Number.{Number}
+use Rattle.expr.specs.Results.{ahead, NumberFound}
+use Rattle.expr.specs.declared.reader.Reader.{Reader}
 
 -- ## One part
 
@@ -37,16 +36,12 @@ module _ (t : ℕ → Bool) (r : ℕ) (none : t 0 ≡ true) where
   tested_is true bs = refl
   tested_is false bs = rw none refl
 
-  module _ {b : Bool} {at : ℕ} {s : List ℕ} where
-    pub test_faulted : {q : Refusal} → NumberFound 1 b at s (Err q) → fault (number_of q) ≡ Tested b t r (drop at s)
-    test_faulted f = faulted _ f.answer ∙ tested_is b (drop at s)
+  module _ {b : Bool} {before after : Reader} where
+    pub test_faulted : {q : Refusal} → NumberFound 1 b before after (Err q) → fault (number_of q) ≡ Tested b t r (ahead before)
+    test_faulted f = faulted _ f.found.answer ∙ tested_is b (ahead before)
 
-    pub test_denied : {v : Number} → NumberFound 1 b at s (Ok v) → t v.value ≡ false → fault r ≡ Tested b t r (drop at s)
-    test_denied f e = onward _ f.answer (denied r _ _ e) ∙ tested_is b (drop at s)
-
-    pub test_passed : {v : Number} → NumberFound 1 b at s (Ok v) → t v.value ≡ true
-        → got v.value (drop v.next s) ≡ Tested b t r (drop at s)
-    test_passed f e = onward _ f.answer (asked r _ _ e refl) ∙ tested_is b (drop at s)
+    pub test_passed : {v : ℕ} → NumberFound 1 b before after (Ok v) → t v ≡ true → got v (ahead after) ≡ Tested b t r (ahead before)
+    test_passed f e = onward _ f.found.answer (asked r _ _ e refl) ∙ tested_is b (ahead before)
 
 -- ## Parts of parts
 

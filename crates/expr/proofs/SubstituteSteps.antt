@@ -9,6 +9,7 @@ use lib.Dec.{leb}
 use lib.ListN.{length, drop}
 use borrow.Author.Tests.{le-leb, lt-leb}
 use Rattle.std.specs.Prelude.{Result, Ok, Err}
+use Rattle.std.specs.Borrow.{Bor}
 use Rattle.refusals.specs.Refusals.{number_of, refused_at}
 use Rattle.refusals.specs.declared.Refusal.{Refusal}
 use Rattle.refusals.specs.declared.Refusal.TheVariants.{ResultTooLarge, BufferTooShort}
@@ -22,6 +23,7 @@ use Rattle.expr.specs.Replaced.{SubstitutedAs, Decodes, swap, Stands, Ready, Don
 use Rattle.expr.specs.declared.form.Taken.{Taken}
 use Rattle.expr.specs.declared.replace.Job.{Job}
 use Rattle.expr.specs.declared.replace.Walked.{Walked}
+use Rattle.expr.specs.declared.replace.Spot.{Spot}
 use Rattle.expr.proofs.FormTheorem.{decode_only}
 use Rattle.expr.proofs.Slices.{Sliced, bytes_each}
 use Rattle.expr.proofs.Replacing.{long, swapped_long}
@@ -58,6 +60,10 @@ other_refused {s} {t} r x out d h e =
 
 -- ## The result
 
+-- where a whole term stands
+abbrev pub front : Bool → Spot
+front live = record { left = max_depth; live = live; to = 0 }
+
 -- a whole term, within the limits, is ready for the walk
 module _ {s : List ℕ} (e by : Expr) (whole : Within e × (s ≡ encode e)) (other : Within by) where
   not_long : (x : Name) (live : Bool) → length (encode (swap x by live e)) < 2 ^ 40
@@ -65,9 +71,9 @@ module _ {s : List ℕ} (e by : Expr) (whole : Within e × (s ≡ encode e)) (ot
       let small : length (encode by) ≤ 262144 = omega (arith, long by other.fits, other.count) in
       omega (arith, swapped_long x by small e live, long e whole.0.fits, whole.0.count)
 
-  whole_ready : (live : Bool) (j : Job) (w out : List ℕ) → (live ≡ true → Stands j w by)
-      → (j.write ≡ true → length (encode (swap j.name by live e)) ≤ length out) → Ready s max_depth live j w out 0
-  whole_ready live j w out stands room =
+  whole_ready : (live : Bool) (j : Job) (out : List ℕ) → (live ≡ true → Stands j by)
+      → (j.write ≡ true → length (encode (swap j.name by live e)) ≤ length out) → Ready s (front live) j out
+  whole_ready live j out stands room =
       record {
         term = e;
         by = by;
@@ -89,7 +95,10 @@ pub record Both (s t : List ℕ) : Type 0 where
 pub both_known : {s t : List ℕ} → Decodes s × Decodes t → Sliced s → Sliced t → Both s t
 both_known d b₁ b₂ = record { decodes = d; bytes₁ = b₁; bytes₂ = b₂ }
 
-module _ {s t : List ℕ} (x : Name) (both : Both s t) where
+module _ {s : List ℕ} (x : Name) (by : Bor (List ℕ)) (both : Both s by.now) where
+  abbrev t : List ℕ
+  t = by.now
+
   abbrev e : Expr
   e = both.decodes.0.term
 
@@ -100,7 +109,7 @@ module _ {s t : List ℕ} (x : Name) (both : Both s t) where
   res = substitute x r e
 
   abbrev job : ℕ → ℕ → Bool → Job
-  job n d w = record { name = x; records = n; depth = d; write = w }
+  job n d w = record { name = x; by = by; records = n; depth = d; write = w }
 
   e_is : Within e × (s ≡ encode e)
   e_is = decode_only s e (bytes_each s both.bytes₁) both.decodes.0.reads
@@ -115,25 +124,25 @@ module _ {s t : List ℕ} (x : Name) (both : Both s t) where
 
   -- ## The extent of the replacement
 
-  pub by_ready : (out : List ℕ) → Ready t max_depth false (job 0 0 false) t out 0
-  by_ready out = whole_ready r r r_is r_is.0 false (job 0 0 false) t out (λ h. absurd (false≢true h)) (λ h. absurd (false≢true h))
+  pub by_ready : (out : List ℕ) → Ready t (front false) (job 0 0 false) out
+  by_ready out = whole_ready r r r_is r_is.0 false (job 0 0 false) out (λ h. absurd (false≢true h)) (λ h. absurd (false≢true h))
 
   module _ {out out₁ : List ℕ} {m : Walked}
-      (by-done : (q : Ready t max_depth false (job 0 0 false) t out 0) → Done q.term (swap x q.by false q.term) (job 0 0 false) out out₁ 0 m) where
+      (by-done : (q : Ready t (front false) (job 0 0 false) out) → Done q.term (swap x q.by false q.term) (job 0 0 false) out out₁ 0 m) where
     by_is : Done r r (job 0 0 false) out out₁ 0 m
     unfolding by_ready whole_ready
     by_is = by-done (by_ready out)
 
-    stands : (w : Bool) → Stands (job m.records m.depth w) t r
+    stands : (w : Bool) → Stands (job m.records m.depth w) r
     stands w = record { bytes_are = r_is.1; count = by_is.count; deep = by_is.deep }
 
     -- ## The extent of the result
 
-    pub measure_ready : Ready s max_depth true (job m.records m.depth false) t out₁ 0
-    measure_ready = whole_ready e r e_is r_is.0 true (job m.records m.depth false) t out₁ (λ _. stands false) (λ h. absurd (false≢true h))
+    pub measure_ready : Ready s (front true) (job m.records m.depth false) out₁
+    measure_ready = whole_ready e r e_is r_is.0 true (job m.records m.depth false) out₁ (λ _. stands false) (λ h. absurd (false≢true h))
 
     module _ {out₂ : List ℕ} {w : Walked}
-        (done : (q : Ready s max_depth true (job m.records m.depth false) t out₁ 0)
+        (done : (q : Ready s (front true) (job m.records m.depth false) out₁)
         → Done q.term (swap x q.by true q.term) (job m.records m.depth false) out₁ out₂ 0 w) where
       res_is : Done e res (job m.records m.depth false) out₁ out₂ 0 w
       unfolding measure_ready whole_ready
@@ -170,11 +179,11 @@ module _ {s t : List ℕ} (x : Name) (both : Both s t) where
             fits : length (encode res) ≤ length out₂
             fits = omega (arith, res_is.next)
 
-            pub write_ready : Ready s max_depth true (job m.records m.depth true) t out₂ 0
-            write_ready = whole_ready e r e_is r_is.0 true (job m.records m.depth true) t out₂ (λ _. stands true) (λ _. fits)
+            pub write_ready : Ready s (front true) (job m.records m.depth true) out₂
+            write_ready = whole_ready e r e_is r_is.0 true (job m.records m.depth true) out₂ (λ _. stands true) (λ _. fits)
 
             pub written : {out₃ : List ℕ} {v : Walked}
-                → ((q : Ready s max_depth true (job m.records m.depth true) t out₂ 0)
+                → ((q : Ready s (front true) (job m.records m.depth true) out₂)
                 → Done q.term (swap x q.by true q.term) (job m.records m.depth true) out₂ out₃ 0 v)
                 → SubstitutedAs s x t out out₃ (Ok v.to)
             unfolding write_ready whole_ready

@@ -6,6 +6,8 @@ use Rattle.expr.specs.{Answers.answered, Answers.ok, Answers.map_answer, Answers
 use Rattle.refusals.specs.declared.Refused.{Refused}
 use Rattle.expr.specs.declared.replace.Job.{Job}
 use Rattle.expr.specs.declared.replace.Walked.{Walked}
+use Rattle.expr.specs.declared.replace.Spot.{Spot}
+use Rattle.expr.specs.declared.replace.Children.{Children}
 
 -- of a term, a name, a replacement and the answer buffer before and after the call
 pub record SubstitutedAs (s : List ℕ) (x : ℕ) (t out out' : List ℕ) (r : Result ℕ Refused) : Type 0 where
@@ -55,23 +57,23 @@ abbrev pub pasted : Bool → ℕ → List ℕ → List ℕ → List ℕ
 pasted true at w m = take at m ++ w ++ drop (at + length w) m
 pasted false at w m = m
 
--- the bytes are those of the replacement r, whose extent the job says
-pub record Stands (j : Job) (bytes : List ℕ) (r : Expr) : Type 0 where
-  pub bytes_are : bytes ≡ encode r
+-- what is put for the variable is r, whose extent the job says
+pub record Stands (j : Job) (r : Expr) : Type 0 where
+  pub bytes_are : j.by.now ≡ encode r
   pub count : j.records ≡ records r
   pub deep : j.depth ≡ depth r
 
 -- what is asked of one term, at the front of the bytes s
-pub record Ready (s : List ℕ) (left : ℕ) (live : Bool) (j : Job) (by_bytes out : List ℕ) (to : ℕ) : Type 0 where
+pub record Ready (s : List ℕ) (spot : Spot) (j : Job) (out : List ℕ) : Type 0 where
   pub term : Expr
   pub by : Expr
   pub more : List ℕ
   pub bytes : s ≡ encode term ++ more
   pub fits : Fits term
-  pub deep : depth term ≤ left
-  pub stands : live ≡ true → Stands j by_bytes by
-  pub small : to + length (encode (swap j.name by live term)) < 2 ^ 40
-  pub room : j.write ≡ true → to + length (encode (swap j.name by live term)) ≤ length out
+  pub deep : depth term ≤ spot.left
+  pub stands : spot.live ≡ true → Stands j by
+  pub small : spot.to + length (encode (swap j.name by spot.live term)) < 2 ^ 40
+  pub room : j.write ≡ true → spot.to + length (encode (swap j.name by spot.live term)) ≤ length out
 
 -- what comes of the term e that is written as e'
 pub record Done (e e' : Expr) (j : Job) (out out' : List ℕ) (to : ℕ) (w : Walked) : Type 0 where
@@ -81,24 +83,24 @@ pub record Done (e e' : Expr) (j : Job) (out out' : List ℕ) (to : ℕ) (w : Wa
   pub deep : w.depth ≡ depth e'
   pub wrote : out' ≡ pasted j.write to (encode e') out
 
--- what is asked of n children of a term, behind the bytes that are used
-pub record ReadyAll (s : List ℕ) (w : Walked) (n left : ℕ) (first others : Bool) (j : Job) (by_bytes out : List ℕ) : Type 0 where
+-- what is asked of the children of a term, behind the bytes that are used
+pub record ReadyAll (s : List ℕ) (w : Walked) (c : Children) (j : Job) (out : List ℕ) : Type 0 where
   pub terms : List Expr
   pub by : Expr
   pub more : List ℕ
-  pub many : n ≡ length terms
-  pub few : n ≤ 3
+  pub many : c.count ≡ length terms
+  pub few : c.count ≤ 3
   pub start : w.used ≤ length s
   pub bytes : drop w.used s ≡ encode_all terms ++ more
   pub fits : FitAll terms
-  pub deep : depth_all terms ≤ left
-  pub stands₁ : first ≡ true → Stands j by_bytes by
-  pub stands₂ : others ≡ true → Stands j by_bytes by
+  pub deep : depth_all terms ≤ c.left
+  pub stands₁ : c.first ≡ true → Stands j by
+  pub stands₂ : c.others ≡ true → Stands j by
   pub count : w.records ≤ w.to
   pub high : 1 ≤ w.depth
   pub level : w.depth ≤ w.to
-  pub small : w.to + length (encode_all (swap_all j.name by first others terms)) < 2 ^ 40
-  pub room : j.write ≡ true → w.to + length (encode_all (swap_all j.name by first others terms)) ≤ length out
+  pub small : w.to + length (encode_all (swap_all j.name by c.first c.others terms)) < 2 ^ 40
+  pub room : j.write ≡ true → w.to + length (encode_all (swap_all j.name by c.first c.others terms)) ≤ length out
 
 -- what comes of the children es that are written as es', behind what was
 pub record DoneAll (es es' : List Expr) (j : Job) (out out' : List ℕ) (was w : Walked) : Type 0 where

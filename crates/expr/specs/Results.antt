@@ -1,8 +1,8 @@
 -- What the functions of this crate answer, in the words of the definitions.
 use mathlib.Core.{Path.◌≡◌, Bool.Bool, Bool.cond, Bool.◌||◌, List.List, List.[], List.◌∷◌, Bool.◌&&◌}
-use Rattle.std.specs.Prelude.{ℕ, ◌+◌, ◌^◌, ◌≤◌, ◌<◌, zero, suc, Result, Ok, Err, Option, Some, None}
+use Rattle.std.specs.Prelude.{ℕ, ◌+◌, ◌^◌, ◌≤◌, ◌<◌, zero, suc, Result, Ok, Err, Option, Some, None, IfOk, MatchResult}
 use lib.{Dec.leb, ListN.length, ListN.get_or, ListN.take, ListN.drop, Dec.ltb, Dec.eqb}
-use Rattle.literals.specs.{Bits.bit_at, Bits.unpack, Reading.Read, Reading.got, Reading.fault, Reading.Reads, Reading.◌>>=◌, Reading.give, Reading.ask, Reading.byte, Reading.nonzero, Reading.literal, Reading.max_literal, Reading.bytes_for, Results.literal_answer, Results.LiteralInside}
+use Rattle.literals.specs.{Bits.bit_at, Bits.Bits, Bits.unpack, Reading.Read, Reading.got, Reading.fault, Reading.Reads, Reading.◌>>=◌, Reading.give, Reading.ask, Reading.byte, Reading.nonzero, Reading.literal, Reading.max_literal, Reading.bytes_for, Results.LiteralInside}
 use Rattle.literals.specs.declared.Literal.{Literal}
 use Rattle.refusals.specs.Refusals.{number_of}
 use Rattle.refusals.specs.declared.Refusal.{Refusal}
@@ -10,32 +10,50 @@ use Rattle.refusals.specs.declared.Refused.{Refused}
 use Rattle.expr.specs.{Answers.Answer, Answers.ok, Answers.map_answer, Answers.answered, Terms.Expr, Terms.records, Records.Record, Records.kind_fields, Records.none_lacks, Records.is_match, Records.fits_pattern, Records.read_record, Form.max_records, Form.Node, Form.node_of, Form.node0, Form.node1, Form.node2, Form.node3, Form.parse, Answers.and_then, Form.plain_record, Terms.test_kind, Form.decode, Operations.is_test_fragment, Operations.num_fields}
 use Rattle.expr.specs.Kinds.{kind_number, pattern_number}
 use Rattle.expr.specs.declared.records.Head.{Head}
-use Rattle.expr.specs.declared.records.Number.{Number}
-use Rattle.expr.specs.declared.records.Opened.{Opened}
-use Rattle.expr.specs.declared.records.Range.{Range}
-use Rattle.expr.specs.declared.records.Chosen.{Chosen}
+use Rattle.expr.specs.declared.kind.Kind.{Kind}
+use Rattle.expr.specs.declared.kind.Pattern.{Pattern}
+use Rattle.expr.specs.declared.reader.Reader.{Reader}
 use Rattle.expr.specs.declared.form.Taken.{Taken}
 
--- ## A number, a literal
+-- ## Reading
 
--- a number that was read from the bytes s, and the bytes behind it; or the refusal's number
-abbrev pub number_answer : List ℕ → Result Number Refusal → Read ℕ
-number_answer s (Ok v) = got v.value (drop v.next s)
-number_answer s (Err e) = fault (number_of e)
+-- at the first byte
+pub record AtStart (s : List ℕ) (r : Reader) : Type 0 where
+  pub same : r.bytes.now ≡ s
+  pub first : r.at ≡ 0
 
-abbrev pub NumberInside : ℕ → ℕ → List ℕ → Result Number Refusal → Type 0
-NumberInside n at s (Ok v) = (at ≤ v.next) × (v.next ≤ length s) × (v.value < 256 ^ n)
-NumberInside n at s (Err e) = number_of e ≤ 5
+-- the bytes that are next
+abbrev pub ahead : Reader → List ℕ
+ahead r = drop r.at r.bytes.now
+
+-- what f says of the value that was read, and the bytes behind it; or the refusal's number
+abbrev pub found_answer : {A B : Type 0} → (A → B) → Reader → Result A Refusal → Read B
+found_answer f r (Ok a) = got (f a) (ahead r)
+found_answer f r (Err e) = fault (number_of e)
+
+-- what p reads of the bytes that are next was read, in n bytes at least
+pub record Found {A B : Type 0} (p : Reads B) (f : A → B) (n : ℕ) (before after : Reader) (r : Result A Refusal) : Type 0 where
+  pub answer : found_answer f after r ≡ p (ahead before)
+  pub same : after.bytes.now ≡ before.bytes.now
+  pub inside : MatchResult r (λ a. before.at + n ≤ after.at) (λ e. number_of e ≤ 5)
+
+abbrev pub ByteFound : Reader → Reader → Result ℕ Refusal → Type 0
+ByteFound r r' x = Found byte (λ b. b) 1 r r' x
 
 -- a number of n bytes where b says that its bit stands, and else 0
-pub record NumberFound (n : ℕ) (b : Bool) (at : ℕ) (s : List ℕ) (r : Result Number Refusal) : Type 0 where
-  pub answer : number_answer s r ≡ cond b (nonzero n) (give 0) (drop at s)
-  pub inside : NumberInside n at s r
+pub record NumberFound (n : ℕ) (b : Bool) (before after : Reader) (r : Result ℕ Refusal) : Type 0 where
+  pub found : Found (cond b (nonzero n) (give 0)) (λ v. v) 0 before after r
+  pub small : IfOk r λ v. v < 256 ^ n
+
+-- the bits of a literal, taken from the bytes s
+abbrev pub bits_of : List ℕ → Literal → Bits
+bits_of s l = take l.bits (unpack (drop l.at s))
 
 -- a literal where b says that its bit stands, and else none
-pub record LiteralField (b : Bool) (at : ℕ) (s : List ℕ) (r : Result Literal Refusal) : Type 0 where
-  pub answer : literal_answer s r ≡ cond b literal (give []) (drop at s)
-  pub inside : LiteralInside s at r
+pub record LiteralField (b : Bool) (before after : Reader) (r : Result Literal Refusal) : Type 0 where
+  pub found : Found (cond b literal (give [])) (bits_of before.bytes.now) 0 before after r
+  pub inside : LiteralInside before.bytes.now before.at r
+  pub next : IfOk r λ l. l.next ≡ after.at
 
 -- ## The parts of a record
 
@@ -76,41 +94,14 @@ read_pattern m k =
     cond (bit_at 5 m) (nonzero 1 >>= λ v. ask (is_match k || leb v 1) 5 >>= λ _. give v) (give 0) >>= λ number.
     give (pattern, number)
 
-abbrev pub kind_answer : List ℕ → Result Opened Refusal → Read (ℕ × ℕ)
-kind_answer s (Ok k) = got (k.map, kind_number k.kind) (drop k.next s)
-kind_answer s (Err e) = fault (number_of e)
+abbrev pub KindFound : Reader → Reader → Result (ℕ × Kind) Refusal → Type 0
+KindFound r r' x = Found read_kind (λ k. (k.0, kind_number k.1)) 1 r r' x
 
-abbrev pub KindInside : List ℕ → Result Opened Refusal → Type 0
-KindInside s (Ok k) = (1 ≤ k.next) × (k.next ≤ length s)
-KindInside s (Err e) = number_of e ≤ 5
+abbrev pub RangeFound : ℕ → Reader → Reader → Result (ℕ × ℕ × ℕ) Refusal → Type 0
+RangeFound m r r' x = Found (read_range m) (λ v. v) 0 r r' x
 
-pub record KindFound (s : List ℕ) (r : Result Opened Refusal) : Type 0 where
-  pub answer : kind_answer s r ≡ read_kind s
-  pub inside : KindInside s r
-
-abbrev pub range_answer : List ℕ → Result Range Refusal → Read (ℕ × ℕ × ℕ)
-range_answer s (Ok v) = got (v.name, v.start, v.end) (drop v.next s)
-range_answer s (Err e) = fault (number_of e)
-
-abbrev pub RangeInside : ℕ → List ℕ → Result Range Refusal → Type 0
-RangeInside at s (Ok v) = (at ≤ v.next) × (v.next ≤ length s)
-RangeInside at s (Err e) = number_of e ≤ 5
-
-pub record RangeFound (m at : ℕ) (s : List ℕ) (r : Result Range Refusal) : Type 0 where
-  pub answer : range_answer s r ≡ read_range m (drop at s)
-  pub inside : RangeInside at s r
-
-abbrev pub pattern_answer : List ℕ → Result Chosen Refusal → Read (ℕ × ℕ)
-pattern_answer s (Ok v) = got (pattern_number v.pattern, v.number) (drop v.next s)
-pattern_answer s (Err e) = fault (number_of e)
-
-abbrev pub PatternInside : ℕ → List ℕ → Result Chosen Refusal → Type 0
-PatternInside at s (Ok v) = (at ≤ v.next) × (v.next ≤ length s)
-PatternInside at s (Err e) = number_of e ≤ 5
-
-pub record PatternFound (m k at : ℕ) (s : List ℕ) (r : Result Chosen Refusal) : Type 0 where
-  pub answer : pattern_answer s r ≡ read_pattern m k (drop at s)
-  pub inside : PatternInside at s r
+abbrev pub PatternFound : ℕ → ℕ → Reader → Reader → Result (Pattern × ℕ) Refusal → Type 0
+PatternFound m k r r' x = Found (read_pattern m k) (λ p. (pattern_number p.0, p.1)) 0 r r' x
 
 -- ## A record
 
@@ -124,8 +115,8 @@ record_of s h =
       end = h.end;
       pattern = pattern_number h.pattern;
       number = h.number;
-      lit_a = take h.a.bits (unpack (drop h.a.at s));
-      lit_b = take h.b.bits (unpack (drop h.b.at s));
+      lit_a = bits_of s h.a;
+      lit_b = bits_of s h.b;
     }
 
 abbrev pub head_answer : List ℕ → Result Head Refusal → Read Record

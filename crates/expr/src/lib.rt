@@ -4,5 +4,6 @@
 pub mod form;
 pub mod kind;
 pub mod operations;
+mod reader;
 pub mod records;
 pub mod replace;

@@ -8,14 +8,33 @@ use crate::form::{MAX_DEPTH, MAX_RECORDS};
 use crate::kind::Kind;
 use refusals::{Refusal, Refused};
 
-// What is replaced: the variable, the records and levels of what is put for it, and whether the result is written or only measured: a flag, as
+// What is replaced: the variable, what is put for it with its records and levels, and whether the result is written or only measured: a flag, as
 // a closure that writes would pass through each call of the recursion in the place of `out`, and be called nowhere else.
 #[derive(Clone, Copy, Debug, PartialEq, Eq)]
-pub struct Job {
+pub struct Job<'a> {
     pub name: u16,
+    pub by: &'a [u8],
     pub records: usize,
     pub depth: usize,
     pub write: bool,
+}
+
+// Where a term stands: it has at most `left` levels, `live` says that it lies in no body of a Let or LetBitRange of the name, so that the
+// variable is replaced in it, and its result goes to `to`.
+#[derive(Clone, Copy, Debug, PartialEq, Eq)]
+pub struct Spot {
+    pub left: usize,
+    pub live: bool,
+    pub to: usize,
+}
+
+// A term's children, of at most `left` levels: how many, and whether the variable is replaced in the first of them and in the others.
+#[derive(Clone, Copy, Debug, PartialEq, Eq)]
+pub struct Children {
+    pub count: usize,
+    pub left: usize,
+    pub first: bool,
+    pub others: bool,
 }
 
 // How many bytes of the term are used, where the result goes on, and its records and levels.
@@ -47,15 +66,15 @@ fn copy(from: &[u8], out: &mut [u8], at: usize, write: bool)
     }
 }
 
-// The term at the front of the bytes, of at most `left` levels: `live` says that it lies in no body of a Let or LetBitRange of the name, so
-// that the variable is replaced in it. The result goes to `to`.
+// The term at the front of the bytes. The job is borrowed: a copy of it for each record costs a tenth of all instructions.
 // A record can always be read, for the bytes are of good form.
 #[cycle(walk_walk_all)]
-fn walk(s: &[u8], left: usize, live: bool, job: Job, by: &[u8], out: &mut [u8], to: usize) -> Walked
-    requires { Ready s.now left live job by.now out.old to }
-    ensures { (q : Ready s.now left live job by.now out.old to)
-        → Done q.term (swap job.name q.by live q.term) job out.old out.new to result }
+fn walk(s: &[u8], spot: Spot, job: &Job, out: &mut [u8]) -> Walked
+    requires { Ready s.now spot job.now out.old }
+    ensures { (q : Ready s.now spot job.now out.old)
+        → Done q.term (swap job.now.name q.by spot.live q.term) job.now out.old out.new spot.to result }
 {
+    let Spot { left, live, to } = spot;
     let Ok(head) = crate::records::read_record(s) else {
         return Walked {
             used: 0,
@@ -68,8 +87,8 @@ fn walk(s: &[u8], left: usize, live: bool, job: Job, by: &[u8], out: &mut [u8], 
     let size = head.size;
     let hit = live & is_named(kind, head.name, Kind::Var, job.name);
     if hit {
-        copy(by, out, to, job.write);
-        let end = to + by.len();
+        copy(job.by, out, to, job.write);
+        let end = to + job.by.len();
         return Walked {
             used: size,
             to: end,
@@ -78,41 +97,38 @@ fn walk(s: &[u8], left: usize, live: bool, job: Job, by: &[u8], out: &mut [u8], 
         };
     }
     copy(&s[..size], &mut *out, to, job.write);
-    let first = live & !is_named(kind, head.name, Kind::LetBitRange, job.name);
-    let others = live & !is_named(kind, head.name, Kind::Let, job.name);
-    let count = kind.arity();
+    let children = Children {
+        count: kind.arity(),
+        left: left - 1,
+        first: live & !is_named(kind, head.name, Kind::LetBitRange, job.name),
+        others: live & !is_named(kind, head.name, Kind::Let, job.name),
+    };
     let done = Walked {
         used: size,
         to: to + size,
         records: 1,
         depth: 1,
     };
-    walk_all(s, done, count, left - 1, first, others, job, by, out)
+    walk_all(s, done, children, job, out)
 }
 
-// A term's children, as many as `count`, one behind the other, behind what is done of the term: in the first the variable is replaced if
-// `first`, in the others if `others`.
+// A term's children, one behind the other, behind what is done of the term.
 #[cycle(walk_walk_all)]
-fn walk_all(
-    s: &[u8],
-    done: Walked,
-    count: usize,
-    left: usize,
-    first: bool,
-    others: bool,
-    job: Job,
-    by: &[u8],
-    out: &mut [u8],
-) -> Walked
-    requires { ReadyAll s.now done count left first others job by.now out.old }
-    ensures { (q : ReadyAll s.now done count left first others job by.now out.old)
-        → DoneAll q.terms (swap_all job.name q.by first others q.terms) job out.old out.new done result }
+fn walk_all(s: &[u8], done: Walked, children: Children, job: &Job, out: &mut [u8]) -> Walked
+    requires { ReadyAll s.now done children job.now out.old }
+    ensures { (q : ReadyAll s.now done children job.now out.old)
+        → DoneAll q.terms (swap_all job.now.name q.by children.first children.others q.terms) job.now out.old out.new done result }
 {
     let mut done = done;
-    let mut live = first;
-    for _ in 0..count {
+    let mut live = children.first;
+    for _ in 0..children.count {
         let used = done.used;
-        let a = walk(&s[used..], left, live, job, by, &mut *out, done.to);
+        let spot = Spot {
+            left: children.left,
+            live,
+            to: done.to,
+        };
+        let a = walk(&s[used..], spot, job, &mut *out);
         let depth = done.depth.max(1 + a.depth);
         let records = done.records + a.records;
         let behind = used + a.used;
@@ -122,7 +138,7 @@ fn walk_all(
             records,
             depth,
         };
-        live = others;
+        live = children.others;
     }
     done
 }
@@ -134,17 +150,24 @@ fn replace(term: &[u8], name: u16, by: &[u8], out: &mut [u8]) -> Result<usize, R
 {
     let alone = Job {
         name,
+        by,
         records: 0,
         depth: 0,
         write: false,
     };
-    let b = walk(by, MAX_DEPTH, false, alone, by, &mut *out, 0);
+    let kept = Spot {
+        left: MAX_DEPTH,
+        live: false,
+        to: 0,
+    };
+    let b = walk(by, kept, &alone, &mut *out);
     let measuring = Job {
         records: b.records,
         depth: b.depth,
         ..alone
     };
-    let m = walk(term, MAX_DEPTH, true, measuring, by, &mut *out, 0);
+    let whole = Spot { live: true, ..kept };
+    let m = walk(term, whole, &measuring, &mut *out);
     if MAX_RECORDS < m.records {
         return Err(Refusal::ResultTooLarge.at(0));
     }
@@ -158,7 +181,7 @@ fn replace(term: &[u8], name: u16, by: &[u8], out: &mut [u8]) -> Result<usize, R
         write: true,
         ..measuring
     };
-    let w = walk(term, MAX_DEPTH, true, writing, by, out, 0);
+    let w = walk(term, whole, &writing, out);
     Ok(w.to)
 }
 

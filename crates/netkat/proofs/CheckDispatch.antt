@@ -1,17 +1,17 @@
--- The walk of src/check.rt over one term: its record says what it is, and what is told of its children is told of the term.
+-- The walk of src/check.rt over one term: its record says what it is, and the answer to its children is the answer to the term.
 use mathlib.Core.Path.{◌≡◌, sym, ap, subst, ◌∙◌}
 use mathlib.Core.Bool.{Bool}
 use mathlib.Core.List.{List, [], ◌∷◌, append-nil}
 use Prim.Native.Nat.{ℕ, ◌+◌, ◌-◌, ◌*◌, ◌≤◌}
 use native.Mathlib.Omega.{arith}
-use lib.ListN.{length}
+use lib.ListN.{length, drop}
 use Rattle.std.specs.Prelude.{Result, Ok}
 use Rattle.refusals.specs.declared.Refused.{Refused}
 use Rattle.expr.specs.Kinds.{kind_number}
 use Rattle.expr.specs.Answers.{Answer, and_then, ok}
 use Rattle.expr.specs.Form.{Node, node0, node1, node2, node3, node_of, decode, encode, max_depth}
 use Rattle.expr.specs.Replaced.{encode_all}
-use Rattle.expr.specs.Results.{record_of, arity_of}
+use Rattle.expr.specs.Results.{HeadInside, RecordFound, record_of, arity_of}
 use Rattle.expr.specs.Terms.{Expr, records}
 use Rattle.expr.specs.declared.records.Head.{Head}
 use Rattle.expr.proofs.FormTheorem.{decode_only}
@@ -19,13 +19,14 @@ use Rattle.expr.proofs.HeadOf.{Headed}
 use Rattle.expr.proofs.Replacing.{short}
 use Rattle.expr.proofs.Slices.{Sliced, bytes_each, part}
 use Rattle.desugar.specs.Bindings.{Env}
-use Rattle.desugar.specs.BindingWords.{Bound}
+use Rattle.desugar.specs.BindingWords.{AnyBound, Bound}
 use Rattle.desugar.specs.WalkWords.{TermAt, TermsAt}
+use Rattle.desugar.proofs.Frames.{bound_same}
 use Rattle.desugar.proofs.Regions.{kept_all}
-use Rattle.desugar.proofs.WalkLaws.{in_part}
+use Rattle.desugar.proofs.WalkLaws.{in_part, text_head}
 use Rattle.desugar.proofs.Dispatch.{alone, from_part, levels_left, one_kid, two_kids, three_kids}
 use Rattle.netkat.specs.Check.{check, check_bytes}
-use Rattle.netkat.specs.CheckWords.{check_walk, flags, Frames, CheckReady, CheckRoom, CheckOne, CheckTwo, CheckThree, SortReady, CheckedAs}
+use Rattle.netkat.specs.CheckWords.{check_walk, flags, Frames, CheckReady, CheckRoom, CheckOne, CheckTwo, CheckThree, CheckedAs}
 use Rattle.netkat.specs.declared.check.Sorted.{Sorted}
 use Rattle.netkat.proofs.CheckWalk.{check_is_walk}
 use Rattle.netkat.proofs.CheckLaws.{frames_moved}
@@ -33,7 +34,10 @@ use Rattle.netkat.proofs.CheckLaws.{frames_moved}
 -- ## A term whose record was read
 
 module _ {s xs : List ℕ} {at levels last top : ℕ} (place : ℕ) (q : CheckReady s at levels place last top xs) {h : Head}
-    (k : Headed (part at s) q.term q.text.more h) where
+    (found : RecordFound (drop at s) (Ok h)) where
+  abbrev k : Headed (part at s) q.term q.text.more h
+  k = text_head s at q.text found
+
   abbrev node : Node
   node = node_of (record_of (part at s) h)
 
@@ -49,15 +53,15 @@ module _ {s xs : List ℕ} {at levels last top : ℕ} (place : ℕ) (q : CheckRe
   kids_frames : Frames xs last top (levels - 1 + 1) q.env
   kids_frames = frames_moved q.frames (kept_all last xs) (omega arith) q.frames.below (omega (arith, some_left))
 
-  -- what is told, with bytes counted from the term's first
-  abbrev Told : List ℕ → Result Sorted Refused → Expr → ℕ → ℕ → Type 0
-  Told ys r e used next = CheckedAs (check_walk q.env e place) (at + used) next top xs ys r
+  -- the answer, with bytes counted from the term's first
+  abbrev Checked : List ℕ → Result Sorted Refused → Expr → ℕ → ℕ → Type 0
+  Checked ys r e used next = CheckedAs (check_walk q.env e place) (at + used) next top xs ys r
 
   abbrev Term : List ℕ → Result Sorted Refused → Type 0
-  Term ys r = Told ys r e (length (encode e)) (place + records e)
+  Term ys r = Checked ys r e (length (encode e)) (place + records e)
 
   -- bytes that are counted from the front, counted from the term's first
-  counted : (f : Expr) (ys : List ℕ) (r : Result Sorted Refused) (u next : ℕ) → CheckedAs (check_walk q.env f place) (at + h.size + u) next top xs ys r → Told ys r f (h.size + u) next
+  counted : (f : Expr) (ys : List ℕ) (r : Result Sorted Refused) (u next : ℕ) → CheckedAs (check_walk q.env f place) (at + h.size + u) next top xs ys r → Checked ys r f (h.size + u) next
   counted f ys r u next = subst (λ n. CheckedAs (check_walk q.env f place) n next top xs ys r) (omega arith)
 
   abbrev one_ready : (b : Expr) → TermsAt (part at s) h.size (levels - 1) (place + 1) (b ∷ []) → CheckOne s (at + h.size) (levels - 1) place last top xs
@@ -83,7 +87,7 @@ module _ {s xs : List ℕ} {at levels last top : ℕ} (place : ℕ) (q : CheckRe
       → ((p : CheckOne s (at + h.size) (levels - 1) place last top xs)
       → CheckedAs (check_walk p.env (f p.first) place) (at + h.size + length (encode p.first)) (place + 1 + records p.first) top xs ys r)
       → Term ys r
-  one_done {f} ys r n v = one_kid e text k (Told ys r) n (λ b t. counted (f b) ys r (length (encode b)) (place + 1 + records b) (v (one_ready b t)))
+  one_done {f} ys r n v = one_kid e text k (Checked ys r) n (λ b t. counted (f b) ys r (length (encode b)) (place + 1 + records b) (v (one_ready b t)))
 
   pub two_done : {f : Expr → Expr → Expr} (ys : List ℕ) (r : Result Sorted Refused) → node ≡ node2 f
       → ((p : CheckTwo s (at + h.size) (levels - 1) place last top xs)
@@ -91,7 +95,7 @@ module _ {s xs : List ℕ} {at levels last top : ℕ} (place : ℕ) (q : CheckRe
       (place + 1 + records p.first + records p.second) top xs ys r)
       → Term ys r
   two_done {f} ys r n v =
-      two_kids e text k (Told ys r) n (λ b c t.
+      two_kids e text k (Checked ys r) n (λ b c t.
       counted (f b c) ys r (length (encode_all (b ∷ c ∷ []))) (place + 1 + records b + records c) (v (two_ready b c t)))
 
   pub three_done : {f : Expr → Expr → Expr → Expr} (ys : List ℕ) (r : Result Sorted Refused) → node ≡ node3 f
@@ -100,17 +104,20 @@ module _ {s xs : List ℕ} {at levels last top : ℕ} (place : ℕ) (q : CheckRe
       (place + 1 + records p.first + records p.second + records p.third) top xs ys r)
       → Term ys r
   three_done {f} ys r n v =
-      three_kids e text k (Told ys r) n (λ b c d t.
+      three_kids e text k (Checked ys r) n (λ b c d t.
       counted (f b c d) ys r (length (encode_all (b ∷ c ∷ d ∷ []))) (place + 1 + records b + records c + records d) (v (three_ready b c d t)))
 
   -- a record without children
-  pub leaf_ready : SortReady (part at s) h last xs
-  leaf_ready = record { inside = k.found; env = q.env; bound = q.frames.bound }
+  pub leaf_ready : HeadInside (part at s) (Ok h)
+  leaf_ready = k.found
 
-  module _ (none : 0 ≡ arity_of (kind_number h.kind)) {x : Answer Bool}
-      (v : (e : Expr) (env : Env Bool) → node ≡ node0 e → Bound xs last (flags env) → x ≡ check_walk env e place) where
+  pub scope_ready : AnyBound xs last
+  scope_ready = record { env = flags q.env; bound = q.frames.bound }
+
+  module _ (none : 0 ≡ arity_of (kind_number h.kind)) {ys : List ℕ} {inner : ℕ} (same : (ys ≡ xs) × (inner ≡ last)) {x : Answer Bool}
+      (v : (e : Expr) (env : Env Bool) → node ≡ node0 e → Bound ys inner (flags env) → x ≡ check_walk env e place) where
     pub leaf_is : check_walk q.env e place ≡ x
-    leaf_is = sym (v e q.env (alone e text k none).0 q.frames.bound)
+    leaf_is = sym (v e q.env (alone e text k none).0 (bound_same (flags q.env) same.0 same.1 q.frames.bound))
 
     pub leaf_done : (t : Bool) → x ≡ ok t → Term xs (Ok (record { used = at + h.size; next = place + 1; test = t }))
     leaf_done t is =

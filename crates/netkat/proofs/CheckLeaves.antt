@@ -13,7 +13,7 @@ use Rattle.expr.specs.Terms.{Core, Name, Ranged, Use, Var, Where}
 use Rattle.desugar.specs.Bindings.{Env, find_range, lookup_alias, lookup_variable, range, variable}
 use Rattle.desugar.specs.Memory.{Lies}
 use Rattle.desugar.specs.BindingWords.{unbound_number}
-use Rattle.desugar.specs.declared.bindings.Region.{Region}
+use Rattle.desugar.specs.declared.memory.Region.{Region}
 use Rattle.desugar.specs.Rules.{bound_variable, known_range, range_rule}
 use Rattle.desugar.specs.RangedWords.{judged_range}
 use Rattle.desugar.proofs.EnvLaws.{find_range_map, lookup_alias_map, lookup_variable_map, map_env, map_option}

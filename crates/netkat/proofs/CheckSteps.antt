@@ -38,15 +38,15 @@ module _ {s xs : List ℕ} {from l last top : ℕ} (place : ℕ) (q : CheckOne s
   one_first =
       ready_first (place + 1) q.first [] q.text (frames_moved q.frames (kept_all last xs) (omega arith) q.frames.below (omega arith))
 
-  -- what is told of the whole
-  abbrev OneTold : Expr → List ℕ → Result Sorted Refused → Type 0
-  OneTold e ys r = CheckedAs (check_walk q.env e place) (from + length (encode q.first)) (place + 1 + records q.first) top xs ys r
+  -- the answer to the whole
+  abbrev OneChecked : Expr → List ℕ → Result Sorted Refused → Type 0
+  OneChecked e ys r = CheckedAs (check_walk q.env e place) (from + length (encode q.first)) (place + 1 + records q.first) top xs ys r
 
   module _ {ys : List ℕ} {w : Sorted} (c : OneFound ys w) where
-    pub unary_done : {kind : ℕ} (k : Operator1 kind) → OneTold (Unary k.o q.first) ys (Ok (record { used = w.used; next = w.next; test = false }))
+    pub unary_done : {kind : ℕ} (k : Operator1 kind) → OneChecked (Unary k.o q.first) ys (Ok (record { used = w.used; next = w.next; test = false }))
     unary_done k = last_found (then_ok _ c.is) refl refl (omega arith) (kept_all top xs) c
 
-    pub negation_done : w.test ≡ true → OneTold (TestNegation q.first) ys (Ok w)
+    pub negation_done : w.test ≡ true → OneChecked (TestNegation q.first) ys (Ok w)
     negation_done h =
         last_found (then_ok _ c.is ∙ ap (λ b. and_then (need b 22 place) (λ _. ok true)) h ∙ ap ok (sym h)) refl refl (omega arith) (kept_all top xs) c
 
@@ -66,11 +66,11 @@ module _ {s xs : List ℕ} {from l last top : ℕ} (place : ℕ) (q : CheckOne s
           small = omega (arith, q.frames.small);
         })
 
-    pub alias_told : (ys : List ℕ) (r : Result Sorted Refused)
+    pub alias_done : (ys : List ℕ) (r : Result Sorted Refused)
         → CheckedAs (check_walk (range x b e ∷ q.env) q.first (place + 1)) (from + length (encode q.first)) (place + 1 + records q.first) (top + 5) xs₁ ys r
-        → OneTold (LetBitRange x b e q.first) ys r
-    alias_told ys (Ok w) c = last_found c.is refl refl (omega arith) kept c
-    alias_told ys (Err f) c = c
+        → OneChecked (LetBitRange x b e q.first) ys r
+    alias_done ys (Ok w) c = last_found c.is refl refl (omega arith) kept c
+    alias_done ys (Err f) c = c
 
 -- ## A variable's sort
 
@@ -93,8 +93,8 @@ module _ {s xs : List ℕ} {from l last top : ℕ} (place : ℕ) (q : CheckTwo s
   abbrev pub FirstFound : List ℕ → Sorted → Type 0
   FirstFound ys w = SortedAs (check_walk q.env q.first (place + 1)) (from + length (encode q.first)) (place + 1 + records q.first) top xs ys w
 
-  abbrev TwoTold : Expr → List ℕ → Result Sorted Refused → Type 0
-  TwoTold e ys r =
+  abbrev TwoChecked : Expr → List ℕ → Result Sorted Refused → Type 0
+  TwoChecked e ys r =
       CheckedAs (check_walk q.env e place) (from + length (encode_all (q.first ∷ q.second ∷ []))) (place + 1 + records q.first + records q.second) top xs ys r
 
   module _ {xs₁ : List ℕ} {w : Sorted} (c : FirstFound xs₁ w) where
@@ -114,7 +114,7 @@ module _ {s xs : List ℕ} {from l last top : ℕ} (place : ℕ) (q : CheckTwo s
 
     pub binary_done : {kind : ℕ} {ys : List ℕ} {w₂ : Sorted} {t : Bool} (k : Operator2 kind) → t ≡ (test_kind kind && (w.test && w₂.test))
         → SortedAs (check_walk q.env q.second w.next) (w.used + length (encode q.second)) (w.next + records q.second) top xs₁ ys w₂
-        → TwoTold (Binary k.o q.first q.second) ys (Ok (record { used = w₂.used; next = w₂.next; test = t }))
+        → TwoChecked (Binary k.o q.first q.second) ys (Ok (record { used = w₂.used; next = w₂.next; test = t }))
     binary_done {w₂ = w₂} k e d =
         last_found
         (go_on_fact (both k.o) c ∙ then_ok _ d.is ∙ ap ok (ap (λ n. test_kind n && (w.test && w₂.test)) k.is ∙ sym e))
@@ -160,13 +160,13 @@ module _ {s xs : List ℕ} {from l last top : ℕ} (place : ℕ) (q : CheckTwo s
         let_is : check_walk q.env (Let x q.first q.second) place ≡ x₃
         let_is = go_on_fact (λ s p. check_walk (variable x s ∷ q.env) q.second p) c
 
-        pub let_told : (ys : List ℕ) (r : Result Sorted Refused)
-            → CheckedAs x₃ (w.used + length (encode q.second)) (w.next + records q.second) (top + 8) xs₃ ys r → TwoTold (Let x q.first q.second) ys r
-        let_told ys (Ok w₂) d =
+        pub let_done : (ys : List ℕ) (r : Result Sorted Refused)
+            → CheckedAs x₃ (w.used + length (encode q.second)) (w.next + records q.second) (top + 8) xs₃ ys r → TwoChecked (Let x q.first q.second) ys r
+        let_done ys (Ok w₂) d =
             last_found (let_is ∙ d.is)
             (omega (arith, c.used_is, pair_long q.first q.second)) (omega (arith, c.next_is)) (omega arith)
             (kept_then sort_kept (kept_less (omega arith) kept)) d
-        let_told ys (Err f) d = let_is ∙ d
+        let_done ys (Err f) d = let_is ∙ d
 
 -- ## Three operands
 

@@ -2,12 +2,12 @@
 use mathlib.Core.{Path.◌≡◌, Bool.Bool, Bool.true, Bool.false, Bool.◌&&◌, Bool.◌||◌, List.List, List.[], List.◌∷◌}
 use Rattle.std.specs.Prelude.{ℕ, ◌+◌, ◌*◌, ◌^◌, ◌≤◌, ◌<◌, Result, Ok, Err}
 use lib.{Dec.eqb, ListN.length, ListN.drop}
-use Rattle.expr.specs.{Answers.Answer, Answers.ok, Answers.refuse, Answers.and_then, Answers.need, Terms.Zero, Terms.Top, Terms.Core, Terms.leaf, Terms.Expr, Terms.Plain, Terms.Unary, Terms.Binary, Terms.TestNegation, Terms.IfThenElse, Terms.Let, Terms.LetBitRange, Terms.Var, Terms.Ranged, Terms.atom_kind, Terms.op2_kind, Terms.test_kind, Terms.records, Terms.depth, Form.decode, Form.max_depth, Operations.is_test_use, Results.HeadInside}
-use Rattle.expr.specs.declared.records.Head.{Head}
+use Rattle.expr.specs.{Answers.Answer, Answers.ok, Answers.refuse, Answers.and_then, Answers.need, Terms.Zero, Terms.Top, Terms.Core, Terms.leaf, Terms.Expr, Terms.Plain, Terms.Unary, Terms.Binary, Terms.TestNegation, Terms.IfThenElse, Terms.Let, Terms.LetBitRange, Terms.Var, Terms.Ranged, Terms.atom_kind, Terms.op2_kind, Terms.test_kind, Terms.records, Terms.depth, Form.decode, Form.encode, Form.max_depth, Replaced.encode_all, Operations.is_test_use}
 use Rattle.refusals.specs.Refusals.{number_of}
 use Rattle.refusals.specs.declared.Refused.{Refused}
 use Rattle.desugar.specs.{Bindings.Env, Bindings.variable, Bindings.range, Bindings.lookup_variable, Bindings.lookup_alias, Bindings.find_range, Rules.known_range, Rules.bound_variable, Rules.range_rule, Memory.Kept, BindingWords.Bound, WalkWords.TermAt, WalkWords.TermsAt}
 use Rattle.netkat.specs.declared.check.Sorted.{Sorted}
+use Rattle.netkat.specs.declared.check.Spot.{Spot}
 
 -- ## Check as one walk
 
@@ -104,12 +104,6 @@ pub record CheckThree (s : List ℕ) (from levels place last top : ℕ) (xs : Li
   pub text : TermsAt s from levels (place + 1) (first ∷ second ∷ third ∷ [])
   pub frames : Frames xs last top (levels + 1) env
 
--- of a record without children, which was read from the bytes s
-pub record SortReady (s : List ℕ) (h : Head) (last : ℕ) (xs : List ℕ) : Type 0 where
-  pub inside : HeadInside s (Ok h)
-  pub env : Env Bool
-  pub bound : Bound xs last (flags env)
-
 -- ## What is answered
 
 -- a walk found a sort: x is its definition's answer. Nothing below the top has changed
@@ -123,3 +117,36 @@ pub record SortedAs (x : Answer Bool) (used next top : ℕ) (xs xs' : List ℕ) 
 abbrev pub CheckedAs : Answer Bool → (used next top : ℕ) → (xs xs' : List ℕ) → Result Sorted Refused → Type 0
 CheckedAs x used next top xs xs' (Ok w) = SortedAs x used next top xs xs' w
 CheckedAs x used next top xs xs' (Err e) = x ≡ refuse (number_of e.refusal) e.place
+
+-- the same by the spot that the check stands at
+abbrev pub AtTerm : List ℕ → Spot → List ℕ → Type 0
+AtTerm s w = CheckReady s w.at w.left w.place w.env.last w.top
+
+abbrev pub AtOne : List ℕ → Spot → List ℕ → Type 0
+AtOne s w = CheckOne s w.at w.left w.place w.env.last w.top
+
+abbrev pub AtTwo : List ℕ → Spot → List ℕ → Type 0
+AtTwo s w = CheckTwo s w.at w.left w.place w.env.last w.top
+
+abbrev pub AtThree : List ℕ → Spot → List ℕ → Type 0
+AtThree s w = CheckThree s w.at w.left w.place w.env.last w.top
+
+-- of a term
+abbrev pub TermSorted : {s xs : List ℕ} {at levels place last top : ℕ} → CheckReady s at levels place last top xs → List ℕ → Result Sorted Refused → Type 0
+TermSorted {s} {xs} {at} {levels} {place} {last} {top} q =
+    CheckedAs (check_walk q.env q.term place) (at + length (encode q.term)) (place + records q.term) top xs
+
+-- of a node f with its children
+abbrev pub OneSorted : {s xs : List ℕ} {from levels place last top : ℕ} → CheckOne s from levels place last top xs → (Expr → Expr) → List ℕ → Result Sorted Refused → Type 0
+OneSorted {s} {xs} {from} {levels} {place} {last} {top} q f =
+    CheckedAs (check_walk q.env (f q.first) place) (from + length (encode q.first)) (place + 1 + records q.first) top xs
+
+abbrev pub TwoSorted : {s xs : List ℕ} {from levels place last top : ℕ} → CheckTwo s from levels place last top xs → (Expr → Expr → Expr) → List ℕ → Result Sorted Refused → Type 0
+TwoSorted {s} {xs} {from} {levels} {place} {last} {top} q f =
+    CheckedAs (check_walk q.env (f q.first q.second) place) (from + length (encode_all (q.first ∷ q.second ∷ [])))
+    (place + 1 + records q.first + records q.second) top xs
+
+abbrev pub ThreeSorted : {s xs : List ℕ} {from levels place last top : ℕ} → CheckThree s from levels place last top xs → (Expr → Expr → Expr → Expr) → List ℕ → Result Sorted Refused → Type 0
+ThreeSorted {s} {xs} {from} {levels} {place} {last} {top} q f =
+    CheckedAs (check_walk q.env (f q.first q.second q.third) place) (from + length (encode_all (q.first ∷ q.second ∷ q.third ∷ [])))
+    (place + 1 + records q.first + records q.second + records q.third) top xs

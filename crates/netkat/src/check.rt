@@ -1,24 +1,24 @@
-// Check: the rules 11 to 23 by the written term alone. A walk like desugaring's, which keeps whether a variable is a test, and makes no core.
+// Check: the rules 11 to 23 by the written term alone. A walk like desugaring's, which keeps whether a variable is a test, and makes no core:
+// why the two are not one stands at the other (desugar/src/walk.rt). What a node with one child asks for is of lent bytes, memory and spot
+// together, so it stands in the clauses of three functions and in no type.
 // The functions that take a record apart are inlined, so that a level of the term is one frame of the machine's stack.
-ghost use Rattle.std.specs.Prelude.{◌≡◌, Bool, ◌||◌, [], ◌∷◌, ◌+◌, eqb, length};
+ghost use Rattle.std.specs.Prelude.{◌≡◌, Bool, ◌||◌, eqb};
 ghost use Rattle.expr.specs.Answers.{answered};
-ghost use Rattle.expr.specs.Terms.{Expr, Unary, Binary, TestNegation, IfThenElse, Let, LetBitRange, Var, Ranged, records};
+ghost use Rattle.expr.specs.Terms.{Expr, Unary, Binary, TestNegation, IfThenElse, Let, LetBitRange, Var, Ranged};
 ghost use Rattle.expr.specs.Kinds.{kind_number};
 ghost use Rattle.expr.specs.Records.{Record};
-ghost use Rattle.expr.specs.Form.{encode, node_of, node0};
+ghost use Rattle.expr.specs.Form.{node_of, node0};
 ghost use Rattle.expr.specs.Operations.{is_test_use};
-ghost use Rattle.expr.specs.Replaced.{encode_all};
-ghost use Rattle.expr.specs.Results.{Term, record_of};
+ghost use Rattle.expr.specs.Results.{HeadInside, Term, record_of};
 ghost use Rattle.desugar.specs.Bindings.{Env};
-ghost use Rattle.desugar.specs.BindingWords.{AnyBound, Bound};
+ghost use Rattle.desugar.specs.BindingWords.{Bound};
 ghost use Rattle.desugar.specs.WalkWords.{Operator1, Operator2, where_of, use_of};
-ghost use Rattle.desugar.specs.RangedWords.{RangeReady};
 ghost use Rattle.netkat.specs.Check.{check_bytes};
-ghost use Rattle.netkat.specs.CheckWords.{check_walk, flags, sort_kind, CheckReady, CheckOne, CheckTwo, CheckThree, CheckedAs, CheckRoom, SortReady};
+ghost use Rattle.netkat.specs.CheckWords.{check_walk, flags, sort_kind, AtTerm, AtOne, AtTwo, AtThree, TermSorted, OneSorted, TwoSorted, ThreeSorted, CheckRoom};
 
 use desugar::Fields;
-use desugar::bindings::Bindings;
-use desugar::memory::write_record;
+use desugar::bindings::{Bindings, Scope};
+use desugar::memory::{Region, write_record};
 use expr::form::MAX_DEPTH;
 use expr::kind::Kind;
 use expr::records::Head;
@@ -51,14 +51,13 @@ pub struct Spot {
 }
 
 // A variable: as its definition, whose record is of the kind 0, Zero, where it is a test.
-fn variable(name: u32, place: usize, env: Bindings, work: &[u32]) -> Result<bool, Refused>
-    requires { AnyBound work.now env.last }
-    ensures { (ρ : Env Bool) → Bound work.now env.last (flags ρ) → answered result ≡ check_walk ρ (Var name) place }
+fn variable(name: u32, place: usize, scope: Scope<'_>) -> Result<bool, Refused>
+    ensures { (ρ : Env Bool) → Bound scope.entry.work.now scope.entry.last (flags ρ) → answered result ≡ check_walk ρ (Var name) place }
 {
-    let Some(sort) = env.lookup_variable(work, name) else {
-        return Err(env.unbound(work, name).at(place));
+    let Some(sort) = scope.lookup_variable(name) else {
+        return Err(scope.unbound(name).at(place));
     };
-    Ok(work[sort.at] == 0)
+    Ok(scope.work[sort.at] == 0)
 }
 
 // Whether a use of fields is a test: an assignment is one where there are none.
@@ -72,29 +71,29 @@ fn is_test_use(kind: Kind, fields: Fields) -> bool
 }
 
 // A use of a range.
-fn ranged(head: Head, s: &[u8], place: usize, env: Bindings, work: &[u32]) -> Result<bool, Refused>
-    requires { RangeReady s.now head env.last work.now }
-    ensures { (ρ : Env Bool) → Bound work.now env.last (flags ρ)
+fn ranged(head: Head, s: &[u8], place: usize, scope: Scope<'_>) -> Result<bool, Refused>
+    requires { HeadInside s.now (Ok head) }
+    ensures { (ρ : Env Bool) → Bound scope.entry.work.now scope.entry.last (flags ρ)
         → answered result ≡ check_walk ρ (Ranged (where_of (record_of s.now head)) (use_of (record_of s.now head))) place }
 {
-    match desugar::ranged::judged_range(head, s, env, work) {
+    match desugar::ranged::judged_range(head, s, scope) {
         Err(refusal) => Err(refusal.at(place)),
         Ok(fields) => Ok(is_test_use(head.kind, fields)),
     }
 }
 
 // The record `head` of the bytes s, which has no children.
-fn leaf(head: Head, s: &[u8], place: usize, env: Bindings, work: &[u32]) -> Result<bool, Refused>
-    requires { SortReady s.now head env.last work.now }
-    ensures { (e : Expr) (ρ : Env Bool) → node_of (record_of s.now head) ≡ node0 e → Bound work.now env.last (flags ρ)
+fn leaf(head: Head, s: &[u8], place: usize, scope: Scope<'_>) -> Result<bool, Refused>
+    requires { HeadInside s.now (Ok head) }
+    ensures { (e : Expr) (ρ : Env Bool) → node_of (record_of s.now head) ≡ node0 e → Bound scope.entry.work.now scope.entry.last (flags ρ)
         → answered result ≡ check_walk ρ e place }
 {
     let kind = head.kind;
     match kind {
         Kind::Zero | Kind::One | Kind::Top | Kind::Dup | Kind::End | Kind::Assign | Kind::Test =>
             Ok(kind.is_test()),
-        Kind::Var => variable(head.name, place, env, work),
-        _ => ranged(head, s, place, env, work),
+        Kind::Var => variable(head.name, place, scope),
+        _ => ranged(head, s, place, scope),
     }
 }
 
@@ -111,9 +110,9 @@ fn sort_kind(test: bool) -> Kind
 // The term that is next. It takes the whole bytes and an index, which is faster than a new slice for each call.
 #[cycle(walk)]
 fn check_with_env(s: &[u8], work: &mut [u32], spot: Spot) -> Result<Sorted, Refused>
-    requires { CheckReady s.now spot.at spot.left spot.place spot.env.last spot.top work.old }
-    ensures { (q : CheckReady s.now spot.at spot.left spot.place spot.env.last spot.top work.old)
-        → CheckedAs (check_walk q.env q.term spot.place) (spot.at + length (encode q.term)) (spot.place + records q.term) spot.top work.old work.new result }
+    requires { AtTerm s.now spot work.old }
+    ensures { (q : AtTerm s.now spot work.old)
+        → TermSorted q work.new result }
 {
     let head = expr::records::read_record_at(s, spot.at, spot.place)?;
     let kind = head.kind;
@@ -141,7 +140,8 @@ fn check_with_env(s: &[u8], work: &mut [u32], spot: Spot) -> Result<Sorted, Refu
             let_bit_range(head.name, fields, s, work, inner)
         }
         _ => {
-            let test = leaf(head, &s[spot.at..], spot.place, spot.env, work)?;
+            let scope = spot.env.within(work);
+            let test = leaf(head, &s[spot.at..], spot.place, scope)?;
             Ok(Sorted {
                 used: inner.at,
                 next: spot.place + 1,
@@ -155,9 +155,9 @@ fn check_with_env(s: &[u8], work: &mut [u32], spot: Spot) -> Result<Sorted, Refu
 #[cycle(walk)]
 #[inline(always)]
 fn unary(kind: Kind, s: &[u8], work: &mut [u32], spot: Spot) -> Result<Sorted, Refused>
-    requires { Operator1 (kind_number kind) × CheckOne s.now spot.at spot.left spot.place spot.env.last spot.top work.old }
-    ensures { (k : Operator1 (kind_number kind)) (q : CheckOne s.now spot.at spot.left spot.place spot.env.last spot.top work.old)
-        → CheckedAs (check_walk q.env (Unary k.o q.first) spot.place) (spot.at + length (encode q.first)) (spot.place + 1 + records q.first) spot.top work.old work.new result }
+    requires { Operator1 (kind_number kind) × AtOne s.now spot work.old }
+    ensures { (k : Operator1 (kind_number kind)) (q : AtOne s.now spot work.old)
+        → OneSorted q (Unary k.o) work.new result }
 {
     let a = check_with_env(
         s,
@@ -174,9 +174,9 @@ fn unary(kind: Kind, s: &[u8], work: &mut [u32], spot: Spot) -> Result<Sorted, R
 #[cycle(walk)]
 #[inline(always)]
 fn test_negation(s: &[u8], work: &mut [u32], spot: Spot) -> Result<Sorted, Refused>
-    requires { CheckOne s.now spot.at spot.left spot.place spot.env.last spot.top work.old }
-    ensures { (q : CheckOne s.now spot.at spot.left spot.place spot.env.last spot.top work.old)
-        → CheckedAs (check_walk q.env (TestNegation q.first) spot.place) (spot.at + length (encode q.first)) (spot.place + 1 + records q.first) spot.top work.old work.new result }
+    requires { AtOne s.now spot work.old }
+    ensures { (q : AtOne s.now spot work.old)
+        → OneSorted q TestNegation work.new result }
 {
     let a = check_with_env(
         s,
@@ -196,9 +196,9 @@ fn test_negation(s: &[u8], work: &mut [u32], spot: Spot) -> Result<Sorted, Refus
 #[cycle(walk)]
 #[inline(always)]
 fn binary(kind: Kind, s: &[u8], work: &mut [u32], spot: Spot) -> Result<Sorted, Refused>
-    requires { Operator2 (kind_number kind) × CheckTwo s.now spot.at spot.left spot.place spot.env.last spot.top work.old }
-    ensures { (k : Operator2 (kind_number kind)) (q : CheckTwo s.now spot.at spot.left spot.place spot.env.last spot.top work.old)
-        → CheckedAs (check_walk q.env (Binary k.o q.first q.second) spot.place) (spot.at + length (encode_all (q.first ∷ q.second ∷ []))) (spot.place + 1 + records q.first + records q.second) spot.top work.old work.new result }
+    requires { Operator2 (kind_number kind) × AtTwo s.now spot work.old }
+    ensures { (k : Operator2 (kind_number kind)) (q : AtTwo s.now spot work.old)
+        → TwoSorted q (Binary k.o) work.new result }
 {
     let a = check_with_env(
         s,
@@ -225,9 +225,9 @@ fn binary(kind: Kind, s: &[u8], work: &mut [u32], spot: Spot) -> Result<Sorted, 
 #[cycle(walk)]
 #[inline(always)]
 fn if_then_else(s: &[u8], work: &mut [u32], spot: Spot) -> Result<Sorted, Refused>
-    requires { CheckThree s.now spot.at spot.left spot.place spot.env.last spot.top work.old }
-    ensures { (q : CheckThree s.now spot.at spot.left spot.place spot.env.last spot.top work.old)
-        → CheckedAs (check_walk q.env (IfThenElse q.first q.second q.third) spot.place) (spot.at + length (encode_all (q.first ∷ q.second ∷ q.third ∷ []))) (spot.place + 1 + records q.first + records q.second + records q.third) spot.top work.old work.new result }
+    requires { AtThree s.now spot work.old }
+    ensures { (q : AtThree s.now spot work.old)
+        → ThreeSorted q IfThenElse work.new result }
 {
     let c = check_with_env(
         s,
@@ -266,9 +266,9 @@ fn if_then_else(s: &[u8], work: &mut [u32], spot: Spot) -> Result<Sorted, Refuse
 #[cycle(walk)]
 #[inline(always)]
 fn let_variable(name: u32, s: &[u8], work: &mut [u32], spot: Spot) -> Result<Sorted, Refused>
-    requires { CheckTwo s.now spot.at spot.left spot.place spot.env.last spot.top work.old }
-    ensures { (q : CheckTwo s.now spot.at spot.left spot.place spot.env.last spot.top work.old)
-        → CheckedAs (check_walk q.env (Let name q.first q.second) spot.place) (spot.at + length (encode_all (q.first ∷ q.second ∷ []))) (spot.place + 1 + records q.first + records q.second) spot.top work.old work.new result }
+    requires { AtTwo s.now spot work.old }
+    ensures { (q : AtTwo s.now spot work.old)
+        → TwoSorted q (Let name) work.new result }
 {
     let d = check_with_env(
         s,
@@ -280,9 +280,11 @@ fn let_variable(name: u32, s: &[u8], work: &mut [u32], spot: Spot) -> Result<Sor
     )?;
     let kind = sort_kind(d.test);
     write_record(&mut *work, spot.top, u32::from(kind.number()), 0, 0);
-    let inner = spot
-        .env
-        .with_variable(&mut *work, spot.top + 3, name, spot.top, 1);
+    let core = Region {
+        at: spot.top,
+        count: 1,
+    };
+    let inner = spot.env.with_variable(&mut *work, spot.top + 3, name, core);
     check_with_env(
         s,
         work,
@@ -306,13 +308,11 @@ fn let_bit_range(
     work: &mut [u32],
     spot: Spot,
 ) -> Result<Sorted, Refused>
-    requires { CheckOne s.now spot.at spot.left spot.place spot.env.last spot.top work.old }
-    ensures { (q : CheckOne s.now spot.at spot.left spot.place spot.env.last spot.top work.old)
-        → CheckedAs (check_walk q.env (LetBitRange name fields.start fields.end q.first) spot.place) (spot.at + length (encode q.first)) (spot.place + 1 + records q.first) spot.top work.old work.new result }
+    requires { AtOne s.now spot work.old }
+    ensures { (q : AtOne s.now spot work.old)
+        → OneSorted q (LetBitRange name fields.start fields.end) work.new result }
 {
-    let inner = spot
-        .env
-        .with_alias(&mut *work, spot.top, name, fields.start, fields.end);
+    let inner = spot.env.with_alias(&mut *work, spot.top, name, fields);
     check_with_env(
         s,
         work,
@@ -325,7 +325,7 @@ fn let_bit_range(
     )
 }
 
-// Check of a term of good form and of at most `levels` levels.
+// Check of a term of good form and of at most `levels` levels. It promises what the two functions around it do, which choose its memory.
 fn check_within(term: &[u8], levels: usize, work: &mut [u32]) -> Result<bool, Refused>
     requires { CheckRoom term.now levels work.old }
     ensures { answered result ≡ check_bytes term.now }

@@ -17,6 +17,7 @@ use Rattle.expr.specs.declared.kind.Kind.TheVariants as kind
 use Rattle.expr.specs.Answers.{answered}
 use Rattle.cores.specs.declared.Counts.{Counts}
 use Rattle.std.specs.Array.{IsFirstChunk}
+use Rattle.std.specs.Int.{w32, from_le_bytes}
 use Rattle.std.proofs.lemmas.List.{get_or-take, get_or-drop}
 use Rattle.literals.proofs.Logic.{and_both, and_left, and_right, or_right}
 use Rattle.expr.specs.Answers.{Answer, ok, refuse, and_then, map_answer, need}
@@ -427,7 +428,7 @@ operator_of n l h = go (n - 7) (omega arith) (omega arith)
 
 -- a pair that nine bytes tell
 module _ (s : List ℕ) (at : ℕ) (h : at + 9 ≤ length s) (each : Sliced s) {f : ℕ}
-    (is : f ≡ get_or s (at + 4) 0 + 256 * (get_or s (at + 5) 0 + 256 * (get_or s (at + 6) 0 + 256 * get_or s (at + 7) 0)))
+    (is : f ≡ from_le_bytes w32 (get_or s (at + 4) 0 ∷ get_or s (at + 5) 0 ∷ get_or s (at + 6) 0 ∷ get_or s (at + 7) 0 ∷ []))
     (e : pair_bytes (get_or s at 0) (get_or s (at + 1) 0) (get_or s (at + 2) 0) (get_or s (at + 3) 0) f (get_or s (at + 8) 0) ≡ true) where
   abbrev byte : ℕ → ℕ
   byte n = get_or s (at + n) 0
@@ -460,7 +461,7 @@ module _ (s : List ℕ) (at : ℕ) (h : at + 9 ≤ length s) (each : Sliced s) {
   test_there : CoreRecordFound (drop (at + 2) s) (Ok (record { kind = kind.Test; field = f; value = byte 2 / 32; size = 6 + byte 2 / 32 }))
   test_there =
       atom_at s (at + 2) (omega (arith, h)) kind.Test (test_is ∙ further 2 1 3 refl) each
-      (is ∙ λ i. further 2 2 4 refl i + 256 * (further 2 3 5 refl i + 256 * (further 2 4 6 refl i + 256 * further 2 5 7 refl i)))
+      (is ∙ λ i. from_le_bytes w32 (further 2 2 4 refl i ∷ further 2 3 5 refl i ∷ further 2 4 6 refl i ∷ further 2 5 7 refl i ∷ []))
       ((λ i. atom_bytes (byte 2) (sym (further 2 1 3 refl) i) f (sym (further 2 6 8 refl) i)) ∙ and_right (operator_bytes (get_or s at 0) (byte 1)) (atom_bytes (byte 2) (byte 3) f (byte 8)) both)
 
   pub field_below : f < 4294967295
@@ -484,13 +485,13 @@ module _ (s : List ℕ) (at : ℕ) (h : at + 9 ≤ length s) (each : Sliced s) {
 
 -- the nine bytes, as they were taken from the slice
 pub pair_taken : (s : List ℕ) (at : ℕ) (nine : List ℕ) → IsFirstChunk (take (length s - at) (drop at s)) nine 9 → Sliced s → {f : ℕ}
-    → f ≡ get_or nine 4 0 + 256 * (get_or nine 5 0 + 256 * (get_or nine 6 0 + 256 * get_or nine 7 0))
+    → f ≡ from_le_bytes w32 (get_or nine 4 0 ∷ get_or nine 5 0 ∷ get_or nine 6 0 ∷ get_or nine 7 0 ∷ [])
     → pair_bytes (get_or nine 0 0) (get_or nine 1 0) (get_or nine 2 0) (get_or nine 3 0) f (get_or nine 8 0) ≡ true
     → PairIs (drop at s) (record { size = 8 + get_or nine 2 0 / 32; need = f + 1 })
 pair_taken s at nine k each {f} is e =
     subst (λ n. PairIs (drop at s) (record { size = 8 + n / 32; need = f + 1 })) (sym (byte_is 2 (omega arith)))
     (pair_at s at (omega (arith, k.enough, ap length rest, length-drop at s)) each
-    (is ∙ λ i. byte_is 4 (omega arith) i + 256 * (byte_is 5 (omega arith) i + 256 * (byte_is 6 (omega arith) i + 256 * byte_is 7 (omega arith) i)))
+    (is ∙ λ i. from_le_bytes w32 (byte_is 4 (omega arith) i ∷ byte_is 5 (omega arith) i ∷ byte_is 6 (omega arith) i ∷ byte_is 7 (omega arith) i ∷ []))
     ((λ i. pair_bytes (first_is i) (sym (byte_is 1 (omega arith)) i) (sym (byte_is 2 (omega arith)) i) (sym (byte_is 3 (omega arith)) i) f (sym (byte_is 8 (omega arith)) i)) ∙ e))
   where
     rest : take (length s - at) (drop at s) ≡ drop at s

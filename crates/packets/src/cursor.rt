@@ -7,7 +7,7 @@ use cores::records::CoreRecord;
 use refusals::Refused;
 
 // The bytes of a core, the byte and the record that are next, and the field count so far.
-#[derive(Clone, Copy)]
+#[derive(Clone, Copy, Debug, PartialEq, Eq)]
 pub struct Cursor<'a> {
     pub bytes: &'a [u8],
     pub at: usize,

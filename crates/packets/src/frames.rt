@@ -13,7 +13,7 @@ use expr::kind::Kind;
 const SECOND: u32 = 16;
 
 // How far a run is: how many operators are open, the last mask, and how many of the next cores need not be looked at.
-#[derive(Clone, Copy, Default)]
+#[derive(Clone, Copy, Debug, Default, PartialEq, Eq)]
 pub struct Progress {
     pub depth: usize,
     pub mask: u64,

@@ -16,7 +16,7 @@ use std::marker::Model;
 const SLOTS: usize = 256;
 
 // The mask of a field that was asked for, if there is one. An Option of both would take half as much of the stack again: 24 bytes in place of 16.
-#[derive(Clone, Copy)]
+#[derive(Clone, Copy, Debug, PartialEq, Eq)]
 pub struct Kept {
     pub field: Option<u32>,
     pub mask: u64,

@@ -10,7 +10,7 @@ use cores::{MAX_CORE, records};
 use expr::kind::Kind;
 
 // What is next, how many cores are due, and how far the run is.
-#[derive(Clone, Copy)]
+#[derive(Clone, Copy, Debug, PartialEq, Eq)]
 pub struct Spot<'a> {
     pub cursor: Cursor<'a>,
     pub due: usize,
@@ -18,7 +18,7 @@ pub struct Spot<'a> {
 }
 
 // What is next, and how many cores are still to be skipped.
-#[derive(Clone, Copy)]
+#[derive(Clone, Copy, Debug, PartialEq, Eq)]
 pub struct Skimmed<'a> {
     pub cursor: Cursor<'a>,
     pub skip: usize,

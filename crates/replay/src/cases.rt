@@ -74,7 +74,7 @@ pub fn refused(number: u32, place: u32) -> Answer {
 }
 
 // The numbers at the front of a case. What its operation does not take is 0.
-#[derive(Clone, Copy)]
+#[derive(Clone, Copy, Debug, PartialEq, Eq)]
 pub struct Head {
     // None for a number that no operation has.
     pub operation: Option<Operation>,
@@ -125,7 +125,7 @@ impl Head {
     }
 }
 
-#[derive(Clone, Copy)]
+#[derive(Clone, Copy, Debug, PartialEq, Eq)]
 pub struct Case<'a> {
     pub head: Head,
     pub term: &'a [u8],

@@ -1,6 +1,6 @@
 // What the operation of a case answers, beside what the case expects.
 use crate::cases::{Case, CaseError, Operation, refused, success};
-use crate::reader::{Reader, numbers, unpacked};
+use crate::reader::{Reader, numbers, unpack};
 use literals::BitSlice;
 use netkat::Answer;
 use netkat::operations::{
@@ -35,11 +35,6 @@ const MAX_RANGE_BITS: usize = 128;
 // The front of some memory, which a call is lent.
 fn lent<T>(memory: &mut [T], room: u32) -> Result<&mut [T], CaseError> {
     memory.get_mut(..room as usize).ok_or(CaseError::Malformed)
-}
-
-// The front of a core's memory, up to its end.
-fn front(core: &[u8], end: usize) -> Result<&[u8], CaseError> {
-    core.get(..end).ok_or(CaseError::Malformed)
 }
 
 // Whether memory holds what was written to its front, and marks behind it.
@@ -147,18 +142,21 @@ impl Case<'_> {
 
     // Whether a core that is read back agrees: its answer, and every number of the memory whose front it is lent.
     fn reads_core(&self, alloc: Global) -> Result<bool, CaseError> {
-        let (core, end) = unpacked(alloc, self.term, CORE, 0)?;
-        let (want, _) = unpacked(alloc, self.replacement, 4 * LIST, MARK)?;
+        let mut bytes = vec![in alloc; 0; CORE]?;
+        let core = unpack(self.term, &mut bytes)?;
+        let mut want = vec![in alloc; MARK; 4 * LIST]?;
+        unpack(self.replacement, &mut want)?;
         let mut memory = vec![in alloc; USED; LIST]?;
         let list = lent(&mut memory, self.head.room)?;
-        let got = netkat::records::netkat_read_core(front(&core, end)?, list);
+        let got = netkat::records::netkat_read_core(core, list);
         Ok(got == self.head.expected && memory == numbers(alloc, &want)?)
     }
 
     // Whether packets agree that go through a core: the answer, and the marks behind the list, which is scratch. The lengths of the packets
     // stand before them.
     fn runs_packets(&self, alloc: Global) -> Result<bool, CaseError> {
-        let (core, end) = unpacked(alloc, self.term, CORE, 0)?;
+        let mut bytes = vec![in alloc; 0; CORE]?;
+        let core = unpack(self.term, &mut bytes)?;
         let count = self.head.allowance as usize;
         if PACKETS < count {
             return Err(CaseError::Malformed);
@@ -170,7 +168,7 @@ impl Case<'_> {
         let lengths = numbers(alloc, lengths)?;
         let mut memory = vec![in alloc; USED; LIST]?;
         let list = lent(&mut memory, self.head.room)?;
-        let got = netkat::run::netkat_run_packets(front(&core, end)?, list, packets, &lengths);
+        let got = netkat::run::netkat_run_packets(core, list, packets, &lengths);
         let mut behind = memory.iter().skip(self.head.room as usize);
         Ok(got == self.head.expected && behind.all(|n| *n == USED))
     }

@@ -6,7 +6,7 @@ use crate::cases::CaseError;
 use std::alloc::{AllocError, Global};
 
 // The bytes that are left to read.
-#[derive(Clone, Copy)]
+#[derive(Clone, Copy, Debug, PartialEq, Eq)]
 pub struct Reader<'a> {
     pub rest: &'a [u8],
 }
@@ -71,26 +71,26 @@ impl<'a> Iterator for Groups<'a> {
     }
 }
 
-// Memory of `room` bytes with those that groups stand for, each group behind the end of the one before, as far as there is room; and the last end.
-// Elsewhere it has `fill`.
-pub fn unpacked(
-    alloc: Global,
-    groups: &[u8],
-    room: usize,
-    fill: u8,
-) -> Result<(Vec<u8>, usize), AllocError> {
-    let mut out = vec![in alloc; fill; room]?;
+// Fills memory with these bytes, over and over.
+fn fill(memory: &mut [u8], bytes: &[u8]) {
+    for (place, byte) in memory.iter_mut().zip(bytes.iter().cycle()) {
+        *place = *byte;
+    }
+}
+
+// What groups stand for, in the front of some memory: each group behind the end of the one before, as far as there is room.
+pub fn unpack<'a>(groups: &[u8], memory: &'a mut [u8]) -> Result<&'a [u8], CaseError> {
     let mut end = 0;
     let left = Reader { rest: groups };
     let groups = Groups { left };
     for (next, group) in groups {
-        for (at, byte) in (end..next).zip(group.iter().cycle()) {
-            let Some(place) = out.get_mut(at) else { break };
-            *place = *byte;
+        let room = memory.len();
+        if let Some(part) = memory.get_mut(end..next.min(room)) {
+            fill(part, group);
         }
         end = next;
     }
-    Ok((out, end))
+    memory.get(..end).ok_or(CaseError::Malformed)
 }
 
 // The numbers whose bytes these are, four each.

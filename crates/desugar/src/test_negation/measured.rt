@@ -7,14 +7,13 @@ ghost use Rattle.desugar.specs.NegationRun.{note_number, notes_of, note_at, left
 
 use super::notes::Note;
 use super::places::Places;
-use crate::memory::wide;
 
 // The note of the second operand of the record whose note stands at `note`; `left` is the first one's.
 pub(crate) fn right_note(work: &[u32], note: usize, left: Note) -> Note
     requires { TwoNotes work.now note × (note_number left ≡ left_at work.now note) }
     ensures { note_number result ≡ right_at work.now note }
 {
-    Note::from(work[note + 1 + wide(left.size)])
+    Note::from(work[note + 1 + left.size as usize])
 }
 
 // The note of the record at `here`; those of its operands stand above `note`. The first operand's is the last that was made: it is handed
@@ -38,20 +37,20 @@ fn own_note(work: &[u32], here: usize, note: usize, last: Note) -> Note
     }
 }
 
-// Notes each record of the test at `p.at`, from `p.notes` on.
+// Notes each record of a test, from `p.notes` on.
 pub(crate) fn measure(work: &mut [u32], p: Places)
-    requires lies { (c : Core) × (Lies work.old p.at p.n c) × (is_test c ≡ true) }
-    requires room { p.notes + p.n ≤ length work.old }
+    requires lies { (c : Core) × (Lies work.old p.core.at p.core.count c) × (is_test c ≡ true) }
+    requires room { p.notes + p.core.count ≤ length work.old }
     ensures kept { Kept p.notes work.old work.new }
-    ensures holds { (c : Core) → Lies work.old p.at p.n c → is_test c ≡ true → Holds work.new p.notes (notes_of c) }
+    ensures holds { (c : Core) → Lies work.old p.core.at p.core.count c → is_test c ≡ true → Holds work.new p.notes (notes_of c) }
 {
     let mut last = Note {
         size: 0,
         one: false,
     };
-    for j in (0..p.n).rev() {
+    for j in (0..p.core.count).rev() {
         let note = p.notes + j;
-        last = own_note(work, p.at + 3 * j, note, last);
+        last = own_note(work, p.core.at + 3 * j, note, last);
         work[note] = last.number();
     }
 }

@@ -8,7 +8,7 @@ use super::modes::Mode;
 use super::places::Places;
 
 // The top of the stack, and how many records are written; above the limit none of this turn's are.
-#[derive(Clone, Copy)]
+#[derive(Clone, Copy, Debug, PartialEq, Eq)]
 pub struct Next {
     pub top: usize,
     pub made: usize,
@@ -19,9 +19,9 @@ pub struct Next {
 fn plain_turn(work: &mut [u32], p: Places, j: usize, kind: u32, s: Next) -> Next
     requires room { p.out + 3 * p.limit ≤ length work.old }
     requires run { (t : Core) × Run work.old t p j s }
-    requires left { j < p.n }
+    requires left { j < p.core.count }
     requires within { s.made ≤ p.limit }
-    requires negates_low_kind { (kind ≡ get_or work.old (p.at + 3 * j) 0) × (kind < 9) × (get_or work.old s.top 0 ≡ 0) }
+    requires negates_low_kind { (kind ≡ get_or work.old (p.core.at + 3 * j) 0) × (kind < 9) × (get_or work.old s.top 0 ≡ 0) }
     ensures kept { Kept p.modes work.old work.new }
     ensures stepped { (t : Core) → Run work.old t p j s → Stepped work.new t p (j + 1) result }
 {
@@ -32,7 +32,7 @@ fn plain_turn(work: &mut [u32], p: Places, j: usize, kind: u32, s: Next) -> Next
             made: made + 1,
         };
     }
-    let here = p.at + 3 * j;
+    let here = p.core.at + 3 * j;
     let field = work[here + 1];
     let value = work[here + 2];
     crate::memory::write_record(
@@ -60,13 +60,13 @@ fn plain_turn(work: &mut [u32], p: Places, j: usize, kind: u32, s: Next) -> Next
 fn turn(work: &mut [u32], p: Places, j: usize, s: Next) -> Next
     requires room { p.out + 3 * p.limit ≤ length work.old }
     requires run { (t : Core) × Run work.old t p j s }
-    requires left { j < p.n }
+    requires left { j < p.core.count }
     requires within { s.made ≤ p.limit }
     ensures kept { Kept p.modes work.old work.new }
     ensures stepped { (t : Core) → Run work.old t p j s → Stepped work.new t p (j + 1) result }
 {
     let Next { top, made } = s;
-    let here = p.at + 3 * j;
+    let here = p.core.at + 3 * j;
     let note = p.notes + j;
     let kind = work[here];
     // Tested as a number: made a Mode before the test, it costs 6% of the instructions on negated differences.
@@ -106,11 +106,11 @@ pub(crate) fn negate(work: &mut [u32], p: Places) -> Option<usize>
     ensures negated { (c : Core) → Noted work.old p c → Result work.new c p.out p.limit result }
 {
     let mut s = Next {
-        top: p.modes + p.n - 1,
+        top: p.modes + p.core.count - 1,
         made: 0,
     };
     work[s.top] = Mode::Negate as u32;
-    for j in 0..p.n {
+    for j in 0..p.core.count {
         s = turn(work, p, j, s);
         if p.limit < s.made {
             return None;

@@ -1,7 +1,7 @@
 // Is a core in work memory a test?
-ghost use Rattle.std.specs.Prelude.{◌≡◌, ℕ, ◌+◌, ◌*◌, ◌≤◌, Bool, length};
+ghost use Rattle.std.specs.Prelude.{◌≡◌, ℕ, ◌/◌, Bool, length};
 ghost use Rattle.expr.specs.Terms.{Core, test_kind};
-ghost use Rattle.desugar.specs.Memory.{Lies};
+ghost use Rattle.desugar.specs.Memory.{words};
 ghost use Rattle.desugar.specs.Negation.{is_test};
 ghost use Rattle.desugar.specs.NegationRun.{all_kinds};
 
@@ -13,24 +13,22 @@ fn test_kind(kind: u32) -> bool
     matches!(kind, 0..=1 | 6..=11)
 }
 
-// Does `accepts` take the kind of each of the n records at `at`?
-pub(crate) fn all_kinds<F: Fn(u32) -> bool>(work: &[u32], at: usize, n: usize, accepts: F) -> bool
-    requires room { at + 3 * n ≤ length work.now }
-    requires callable { F.IsAlwaysCallable accepts }
-    ensures { (kinds : ℕ → Bool) → ((kind : ℕ) (b : Bool) → F.post accepts kind b → b ≡ kinds kind) → result ≡ all_kinds kinds work.now at n }
+// Does `accepts` take the kind of each record of a core?
+pub(crate) fn all_kinds<F: Fn(u32) -> bool>(core: &[u32], accepts: F) -> bool
+    requires { F.IsAlwaysCallable accepts }
+    ensures { (kinds : ℕ → Bool) → ((kind : ℕ) (b : Bool) → F.post accepts kind b → b ≡ kinds kind) → result ≡ all_kinds kinds core.now 0 (length core.now / 3) }
 {
-    for j in 0..n {
-        if !accepts(work[at + 3 * j]) {
+    for j in 0..core.len() / 3 {
+        if !accepts(core[3 * j]) {
             return false;
         }
     }
     true
 }
 
-// Is the core of n records at `at` a test?
-pub fn is_test(work: &[u32], at: usize, n: usize) -> bool
-    requires { at + 3 * n ≤ length work.now }
-    ensures { (c : Core) → Lies work.now at n c → result ≡ is_test c }
+// Is this core a test?
+pub fn is_test(core: &[u32]) -> bool
+    ensures { (c : Core) → core.now ≡ words c → result ≡ is_test c }
 {
-    all_kinds(work, at, n, test_kind)
+    all_kinds(core, test_kind)
 }

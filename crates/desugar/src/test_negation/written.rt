@@ -5,7 +5,8 @@ ghost use Rattle.desugar.specs.NegationRun.{TwoNotes, code, side_code, written_s
 
 use super::modes::{Mode, Side, Written};
 use super::notes::Note;
-use crate::memory::write_record;
+use crate::memory::{write_bare, write_record};
+use expr::kind::Kind;
 
 // Which operand of a Sequence is dropped where it is desugared again.
 pub(crate) fn dropped(work: &[u32], note: usize, mode: Mode, kind: u32) -> Option<Side>
@@ -81,8 +82,8 @@ pub(crate) fn emit(work: &mut [u32], here: usize, mode: Mode, written: Written, 
             );
         }
         Written::FromOne => {
-            write_record(work, to, 10, 0, 0);
-            write_record(work, to + 3, 1, 0, 0);
+            write_bare(work, to, Kind::Difference);
+            write_bare(work, to + 3, Kind::One);
             write_record(work, to + 6, kind, field, value);
         }
     }

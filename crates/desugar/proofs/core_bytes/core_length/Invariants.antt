@@ -5,4 +5,4 @@ use Rattle.desugar.specs.CoreBytes.{records_bytes}
 use Rattle.desugar.proofs.core_bytes.core_length.Given as goal
 
 abbrev pub invariant-loop-j : goal.invariant-loop-j
-invariant-loop-j l = l.total ≡ length (records_bytes l.work l.at l.j)
+invariant-loop-j l = l.total ≡ length (records_bytes l.core 0 l.j)

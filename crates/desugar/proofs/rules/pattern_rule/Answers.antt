@@ -1,8 +1,7 @@
 -- `rules::pattern_rule` meets its contract.
 use mathlib.Core.Path.{refl}
-use Rattle.literals.specs.Results.{literal_bits}
 use Rattle.expr.specs.Terms.{Alias}
 use Rattle.desugar.proofs.rules.pattern_rule.Goals as goal
 
 pub returns-in-Exact : goal.returns-in-Exact
-returns-in-Exact c = λ at. rw c.in-Exact.is (c.literal_rule.ensures (Alias 0) (literal_bits c.args.u.a) at refl c.requires.first)
+returns-in-Exact c = λ at. rw c.in-Exact.is (c.literal_rule.ensures (Alias 0) at refl)

@@ -7,20 +7,30 @@ use Rattle.expr.specs.Terms.{Core}
 use Rattle.desugar.specs.Memory.{Lies}
 use Rattle.desugar.specs.NegationRun.{Noted}
 use Rattle.desugar.specs.NegationOutcome.{Negates}
+use Rattle.desugar.proofs.Regions.{region_words}
 use Rattle.desugar.proofs.PlainNegation.{plain_large, plain_fits}
-use Rattle.desugar.proofs.Outcomes.{large, fits, size_is, noted_after}
+use Rattle.desugar.proofs.Outcomes.{no_test, large, fits, size_is, noted_after}
 use Rattle.desugar.proofs.test_negation.negation.Goals as goal
 use Rattle.desugar.proofs.test_negation.negation.Goals.{After-measure, In_ok-size}
 
 pub returns-then-p-clause-negates : goal.returns-then-p-clause-negates
-returns-then-p-clause-negates c = λ t h. plain_large h (sym (c.is_plain.ensures t h) ∙ c.if-is_plain.true) c.if-p.true
+returns-then-p-clause-negates c = λ t h. plain_large h (sym (c.is_plain.ensures t (c.words.ensures ∙ region_words h)) ∙ c.if-is_plain.true) c.if-p.true
 
 pub returns-then-is_plain-clause-negates : goal.returns-then-is_plain-clause-negates
-returns-then-is_plain-clause-negates c = λ t h. let q = sym (c.is_plain.ensures t h) ∙ c.if-is_plain.true in plain_fits q c.if-p.false (c.negate_plain.ensures.negated t h q)
+returns-then-is_plain-clause-negates c = λ t h. let q = sym (c.is_plain.ensures t (c.words.ensures ∙ region_words h)) ∙ c.if-is_plain.true in plain_fits q c.if-p.false (c.negate_plain.ensures.negated t h q)
+
+pub negate_plain-requires-clause-lies : goal.negate_plain-requires-clause-lies
+negate_plain-requires-clause-lies c = let l = c.requires.lies in (l.0, l.1, sym (c.is_plain.ensures l.0 (c.words.ensures ∙ region_words l.1)) ∙ c.if-is_plain.true)
+
+pub returns-then-not-is_test-clause-negates : goal.returns-then-not-is_test-clause-negates
+returns-then-not-is_test-clause-negates c = λ t h. no_test (sym (c.is_test.ensures t (c.words-2.ensures ∙ region_words h)) ∙ c.if-not-is_test.true)
+
+pub measure-requires-clause-lies : goal.measure-requires-clause-lies
+measure-requires-clause-lies c = let l = c.requires.lies in (l.0, l.1, sym (c.is_test.ensures l.0 (c.words-2.ensures ∙ region_words l.1)) ∙ c.if-not-is_test.false)
 
 -- what is measured is noted
-noted : (c : After-measure) (t : Core) → Lies c.args.work.now c.args.p.at c.args.p.n t → Noted c.measure.new.work c.args.p t
-noted c = noted_after c.args.p c.is_test.ensures c.if-not-is_test.false c.measure.ensures.kept c.measure.ensures.holds
+noted : (c : After-measure) (t : Core) → Lies c.args.work.now c.args.p.core.at c.args.p.core.count t → Noted c.measure.new.work c.args.p t
+noted c = noted_after c.args.p (λ t h. c.is_test.ensures t (c.words-2.ensures ∙ region_words h)) c.if-not-is_test.false c.measure.ensures.kept c.measure.ensures.holds
 
 pub negate-requires-clause-noted : goal.negate-requires-clause-noted
 negate-requires-clause-noted c = (c.requires.lies.0, noted (goal.at.negate-requires-clause-noted c).After-measure c.requires.lies.0 c.requires.lies.1)
@@ -36,7 +46,7 @@ returns-clause-negates c = λ t h.
     fits n.test (c.negate.ensures.negated t n) c.in_ok-size.ensures.ok_part c.copy.ensures.copied
 
 -- the size of the negation is within the limit
-size : (c : In_ok-size) → ((t : Core) → Lies c.args.work.now c.args.p.at c.args.p.n t → Noted c.measure.new.work c.args.p t) → c.in_ok-size.size ≤ c.args.p.limit
+size : (c : In_ok-size) → ((t : Core) → Lies c.args.work.now c.args.p.core.at c.args.p.core.count t → Noted c.measure.new.work c.args.p t) → c.in_ok-size.size ≤ c.args.p.limit
 size c n = omega (arith, size_is (c.negate.ensures.negated c.requires.lies.0 (n c.requires.lies.0 c.requires.lies.1)) c.in_ok-size.ensures.ok_part)
 
 pub overflow_mul-size : goal.overflow_mul-size

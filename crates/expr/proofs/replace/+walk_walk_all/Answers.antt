@@ -28,21 +28,21 @@ walk-copy-requires-2 t c =
     let head = front_head q c.in-Ok.ensures in
     own_room q head (is_var q head c.is_named.ensures refl c.if-hit.false)
 
-pub walk-overflow_sub-left : goal.walk-overflow_sub-left
-walk-overflow_sub-left t c = some_left c.requires
+pub walk-overflow_sub-children : goal.walk-overflow_sub-children
+walk-overflow_sub-children t c = some_left c.requires
 
 pub walk-walk_all-requires : goal.walk-walk_all-requires
 walk-walk_all-requires t c =
     let q = c.requires in
     let own = front_head q c.in-Ok.ensures in (
-      omega (arith, c.decreases, some_left q, arity_small (kind_number c.in-Ok.head.kind) c.arity-count.result c.arity-count.ensures),
-      all_ready q own (is_var q own c.is_named.ensures refl c.if-hit.false) (is_first q own c.is_named-2.ensures refl) (is_others q own c.is_named-3.ensures refl) c.copy-2.auto.out c.arity-count.ensures,
+      omega (arith, c.decreases, some_left q, arity_small (kind_number c.in-Ok.head.kind) c.arity.result c.arity.ensures),
+      all_ready q own (is_var q own c.is_named.ensures refl c.if-hit.false) (is_first q own c.is_named-2.ensures refl) (is_others q own c.is_named-3.ensures refl) c.copy-2.auto.out c.arity.ensures,
     )
 
 pub walk-returns : goal.walk-returns
 walk-returns t c = λ q.
     let head = front_head q c.in-Ok.ensures in
-    all_done q head (is_var q head c.is_named.ensures refl c.if-hit.false) (is_first q head c.is_named-2.ensures refl) (is_others q head c.is_named-3.ensures refl) c.copy-2.ensures c.copy-2.auto.out c.arity-count.ensures c.walk_all.ensures
+    all_done q head (is_var q head c.is_named.ensures refl c.if-hit.false) (is_first q head c.is_named-2.ensures refl) (is_others q head c.is_named-3.ensures refl) c.copy-2.ensures c.copy-2.auto.out c.arity.ensures c.walk_all.ensures
 
 pub walk_all-loop-init : goal.walk_all-loop-init
 walk_all-loop-init t c = all_due c.requires (omega arith)

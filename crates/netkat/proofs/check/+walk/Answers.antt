@@ -4,13 +4,11 @@ use mathlib.Core.Path.{ap, refl, ◌∙◌}
 use mathlib.Core.Bool.{and_assoc, ◌&&◌}
 use borrow.Author.Tests.{not-true, not-false}
 use borrow.Author.Rules.{rules}
-use Rattle.expr.specs.Kinds.{kind_number}
-use Rattle.expr.specs.Results.{record_of}
 use Rattle.expr.proofs.Slices.{part}
-use Rattle.desugar.proofs.WalkLaws.{then_refused, text_head, text_read}
-use Rattle.desugar.proofs.Dispatch.{node_at_fact, unary_kind, binary_kind, childless}
+use Rattle.desugar.proofs.WalkLaws.{then_refused, text_read}
+use Rattle.desugar.proofs.Dispatch.{negation_kind, if_kind, let_kind, alias_kind, unary_kind, binary_kind, childless}
 use Rattle.netkat.proofs.CheckLaws.{found, passed_on, stopped}
-use Rattle.netkat.proofs.CheckSteps.{one_first, unary_done, negation_done, negation_refused, alias_ready, alias_told, two_first, two_second, binary_stops, binary_done, body_ready, let_told, three_first, three_second, first_branch_stops, three_third, other_branch_stops, condition_refused, if_done}
+use Rattle.netkat.proofs.CheckSteps.{one_first, unary_done, negation_done, negation_refused, alias_ready, alias_done, two_first, two_second, binary_stops, binary_done, body_ready, let_done, three_first, three_second, first_branch_stops, three_third, other_branch_stops, condition_refused, if_done}
 use Rattle.netkat.proofs.CheckDispatch.{some_left, one_asked, two_asked, three_asked, one_done, two_done, three_done, leaf_is, leaf_done}
 use Rattle.netkat.proofs.check.+walk.Goals as goal
 
@@ -34,57 +32,51 @@ pub check_with_env-returns-in_err-head : goal.check_with_env-returns-in_err-head
 check_with_env-returns-in_err-head t c = λ q. absurd (text_read c.args.s.now c.args.spot.at q.text c.in_err-head.ensures.0)
 
 pub check_with_env-overflow_sub-inner : goal.check_with_env-overflow_sub-inner
-check_with_env-overflow_sub-inner t c = some_left c.args.spot.place c.requires (text_head c.args.s.now c.args.spot.at c.requires.text c.in_ok-head.ensures)
+check_with_env-overflow_sub-inner t c = some_left c.args.spot.place c.requires c.in_ok-head.ensures
 
 pub check_with_env-binary-requires : goal.check_with_env-binary-requires
 check_with_env-binary-requires t c =
-    let own = text_head c.args.s.now c.args.spot.at c.requires.text c.in_ok-head.ensures in
     let b = binary_kind (part c.args.spot.at c.args.s.now) c.in_ok-head.head c.in-Union.is in
-    (omega (arith, c.decreases, some_left c.args.spot.place c.requires own), (b.operator, two_asked c.args.spot.place c.requires own b.node))
+    (omega (arith, c.decreases, some_left c.args.spot.place c.requires c.in_ok-head.ensures), (b.operator, two_asked c.args.spot.place c.requires c.in_ok-head.ensures b.node))
 
 pub check_with_env-returns-in-Union : goal.check_with_env-returns-in-Union
-check_with_env-returns-in-Union t c = λ q. let b = binary_kind (part c.args.spot.at c.args.s.now) c.in_ok-head.head c.in-Union.is in two_done c.args.spot.place q (text_head c.args.s.now c.args.spot.at q.text c.in_ok-head.ensures) c.binary.new.work c.binary.result b.node (c.binary.ensures b.operator)
+check_with_env-returns-in-Union t c = λ q. let b = binary_kind (part c.args.spot.at c.args.s.now) c.in_ok-head.head c.in-Union.is in two_done c.args.spot.place q c.in_ok-head.ensures c.binary.new.work c.binary.result b.node (c.binary.ensures b.operator)
 
 pub check_with_env-unary-requires : goal.check_with_env-unary-requires
 check_with_env-unary-requires t c =
-    let own = text_head c.args.s.now c.args.spot.at c.requires.text c.in_ok-head.ensures in
     let b = unary_kind (part c.args.spot.at c.args.s.now) c.in_ok-head.head c.in-Complement.is in
-    (omega (arith, c.decreases, some_left c.args.spot.place c.requires own), (b.operator, one_asked c.args.spot.place c.requires own b.node))
+    (omega (arith, c.decreases, some_left c.args.spot.place c.requires c.in_ok-head.ensures), (b.operator, one_asked c.args.spot.place c.requires c.in_ok-head.ensures b.node))
 
 pub check_with_env-returns-in-Complement : goal.check_with_env-returns-in-Complement
-check_with_env-returns-in-Complement t c = λ q. let b = unary_kind (part c.args.spot.at c.args.s.now) c.in_ok-head.head c.in-Complement.is in one_done c.args.spot.place q (text_head c.args.s.now c.args.spot.at q.text c.in_ok-head.ensures) c.unary.new.work c.unary.result b.node (c.unary.ensures b.operator)
+check_with_env-returns-in-Complement t c = λ q. let b = unary_kind (part c.args.spot.at c.args.s.now) c.in_ok-head.head c.in-Complement.is in one_done c.args.spot.place q c.in_ok-head.ensures c.unary.new.work c.unary.result b.node (c.unary.ensures b.operator)
 
 pub check_with_env-test_negation-requires : goal.check_with_env-test_negation-requires
 check_with_env-test_negation-requires t c =
-    let own = text_head c.args.s.now c.args.spot.at c.requires.text c.in_ok-head.ensures in
-    (omega (arith, c.decreases, some_left c.args.spot.place c.requires own), one_asked c.args.spot.place c.requires own (node_at_fact (record_of (part c.args.spot.at c.args.s.now) c.in_ok-head.head) 16 (ap kind_number c.in-TestNegation.is)))
+    (omega (arith, c.decreases, some_left c.args.spot.place c.requires c.in_ok-head.ensures), one_asked c.args.spot.place c.requires c.in_ok-head.ensures (negation_kind (part c.args.spot.at c.args.s.now) c.in_ok-head.head c.in-TestNegation.is))
 
 pub check_with_env-returns-in-TestNegation : goal.check_with_env-returns-in-TestNegation
-check_with_env-returns-in-TestNegation t c = λ q. one_done c.args.spot.place q (text_head c.args.s.now c.args.spot.at q.text c.in_ok-head.ensures) c.test_negation.new.work c.test_negation.result (node_at_fact (record_of (part c.args.spot.at c.args.s.now) c.in_ok-head.head) 16 (ap kind_number c.in-TestNegation.is)) c.test_negation.ensures
+check_with_env-returns-in-TestNegation t c = λ q. one_done c.args.spot.place q c.in_ok-head.ensures c.test_negation.new.work c.test_negation.result (negation_kind (part c.args.spot.at c.args.s.now) c.in_ok-head.head c.in-TestNegation.is) c.test_negation.ensures
 
 pub check_with_env-if_then_else-requires : goal.check_with_env-if_then_else-requires
 check_with_env-if_then_else-requires t c =
-    let own = text_head c.args.s.now c.args.spot.at c.requires.text c.in_ok-head.ensures in
-    (omega (arith, c.decreases, some_left c.args.spot.place c.requires own), three_asked c.args.spot.place c.requires own (node_at_fact (record_of (part c.args.spot.at c.args.s.now) c.in_ok-head.head) 17 (ap kind_number c.in-IfThenElse.is)))
+    (omega (arith, c.decreases, some_left c.args.spot.place c.requires c.in_ok-head.ensures), three_asked c.args.spot.place c.requires c.in_ok-head.ensures (if_kind (part c.args.spot.at c.args.s.now) c.in_ok-head.head c.in-IfThenElse.is))
 
 pub check_with_env-returns-in-IfThenElse : goal.check_with_env-returns-in-IfThenElse
-check_with_env-returns-in-IfThenElse t c = λ q. three_done c.args.spot.place q (text_head c.args.s.now c.args.spot.at q.text c.in_ok-head.ensures) c.if_then_else.new.work c.if_then_else.result (node_at_fact (record_of (part c.args.spot.at c.args.s.now) c.in_ok-head.head) 17 (ap kind_number c.in-IfThenElse.is)) c.if_then_else.ensures
+check_with_env-returns-in-IfThenElse t c = λ q. three_done c.args.spot.place q c.in_ok-head.ensures c.if_then_else.new.work c.if_then_else.result (if_kind (part c.args.spot.at c.args.s.now) c.in_ok-head.head c.in-IfThenElse.is) c.if_then_else.ensures
 
 pub check_with_env-let_variable-requires : goal.check_with_env-let_variable-requires
 check_with_env-let_variable-requires t c =
-    let own = text_head c.args.s.now c.args.spot.at c.requires.text c.in_ok-head.ensures in
-    (omega (arith, c.decreases, some_left c.args.spot.place c.requires own), two_asked c.args.spot.place c.requires own (node_at_fact (record_of (part c.args.spot.at c.args.s.now) c.in_ok-head.head) 18 (ap kind_number c.in-Let.is)))
+    (omega (arith, c.decreases, some_left c.args.spot.place c.requires c.in_ok-head.ensures), two_asked c.args.spot.place c.requires c.in_ok-head.ensures (let_kind (part c.args.spot.at c.args.s.now) c.in_ok-head.head c.in-Let.is))
 
 pub check_with_env-returns-in-Let : goal.check_with_env-returns-in-Let
-check_with_env-returns-in-Let t c = λ q. two_done c.args.spot.place q (text_head c.args.s.now c.args.spot.at q.text c.in_ok-head.ensures) c.let_variable.new.work c.let_variable.result (node_at_fact (record_of (part c.args.spot.at c.args.s.now) c.in_ok-head.head) 18 (ap kind_number c.in-Let.is)) c.let_variable.ensures
+check_with_env-returns-in-Let t c = λ q. two_done c.args.spot.place q c.in_ok-head.ensures c.let_variable.new.work c.let_variable.result (let_kind (part c.args.spot.at c.args.s.now) c.in_ok-head.head c.in-Let.is) c.let_variable.ensures
 
 pub check_with_env-let_bit_range-requires : goal.check_with_env-let_bit_range-requires
 check_with_env-let_bit_range-requires t c =
-    let own = text_head c.args.s.now c.args.spot.at c.requires.text c.in_ok-head.ensures in
-    (omega (arith, c.decreases, some_left c.args.spot.place c.requires own), one_asked c.args.spot.place c.requires own (node_at_fact (record_of (part c.args.spot.at c.args.s.now) c.in_ok-head.head) 19 (ap kind_number c.in-LetBitRange.is)))
+    (omega (arith, c.decreases, some_left c.args.spot.place c.requires c.in_ok-head.ensures), one_asked c.args.spot.place c.requires c.in_ok-head.ensures (alias_kind (part c.args.spot.at c.args.s.now) c.in_ok-head.head c.in-LetBitRange.is))
 
 pub check_with_env-returns-in-LetBitRange : goal.check_with_env-returns-in-LetBitRange
-check_with_env-returns-in-LetBitRange t c = λ q. one_done c.args.spot.place q (text_head c.args.s.now c.args.spot.at q.text c.in_ok-head.ensures) c.let_bit_range.new.work c.let_bit_range.result (node_at_fact (record_of (part c.args.spot.at c.args.s.now) c.in_ok-head.head) 19 (ap kind_number c.in-LetBitRange.is)) c.let_bit_range.ensures
+check_with_env-returns-in-LetBitRange t c = λ q. one_done c.args.spot.place q c.in_ok-head.ensures c.let_bit_range.new.work c.let_bit_range.result (alias_kind (part c.args.spot.at c.args.s.now) c.in_ok-head.head c.in-LetBitRange.is) c.let_bit_range.ensures
 
 pub if_then_else-returns-in_err-c : goal.if_then_else-returns-in_err-c
 if_then_else-returns-in_err-c t c = λ q. passed_on _ _ _ _ _ _ c.in_err-c.field-0.0 c.from_residual.ensures.1 (then_refused _ (stopped c.check_with_env.new.work (three_first c.args.spot.place q) c.in_err-c.field-0.0 c.in_err-c.ensures))
@@ -121,12 +113,12 @@ if_then_else-returns t c = λ q.
     if_done c.args.spot.place q one two (found c.check_with_env-3.new.work (three_third c.args.spot.place q one two) c.in_ok-e.ensures) (not-false _ c.if-not-c.false) refl
 
 pub let_bit_range-check_with_env-requires : goal.let_bit_range-check_with_env-requires
-let_bit_range-check_with_env-requires t c = (omega (arith, c.decreases), alias_ready c.args.spot.place c.requires c.args.name c.args.fields.start c.args.fields.end c.with_alias-inner.ensures.last_value.0 c.with_alias-inner.ensures.last_value.1 c.with_alias-inner.ensures.bound)
+let_bit_range-check_with_env-requires t c = (omega (arith, c.decreases), alias_ready c.args.spot.place c.requires c.args.name c.args.fields.start c.args.fields.end c.with_alias-inner.ensures.ends.0 c.with_alias-inner.ensures.ends.1 c.with_alias-inner.ensures.bound)
 
 pub let_bit_range-returns : goal.let_bit_range-returns
 let_bit_range-returns t c = λ q.
-    alias_told c.args.spot.place q c.args.name c.args.fields.start c.args.fields.end c.with_alias-inner.ensures.last_value.0 c.with_alias-inner.ensures.last_value.1 c.with_alias-inner.ensures.bound c.check_with_env.new.work c.check_with_env.result
-    (c.check_with_env.ensures (alias_ready c.args.spot.place q c.args.name c.args.fields.start c.args.fields.end c.with_alias-inner.ensures.last_value.0 c.with_alias-inner.ensures.last_value.1 c.with_alias-inner.ensures.bound))
+    alias_done c.args.spot.place q c.args.name c.args.fields.start c.args.fields.end c.with_alias-inner.ensures.ends.0 c.with_alias-inner.ensures.ends.1 c.with_alias-inner.ensures.bound c.check_with_env.new.work c.check_with_env.result
+    (c.check_with_env.ensures (alias_ready c.args.spot.place q c.args.name c.args.fields.start c.args.fields.end c.with_alias-inner.ensures.ends.0 c.with_alias-inner.ensures.ends.1 c.with_alias-inner.ensures.bound))
 
 pub let_variable-returns-in_err-d : goal.let_variable-returns-in_err-d
 let_variable-returns-in_err-d t c = λ q. passed_on _ _ _ _ _ _ c.in_err-d.field-0.0 c.from_residual.ensures.1 (then_refused _ (stopped c.check_with_env.new.work (two_first c.args.spot.place q) c.in_err-d.field-0.0 c.in_err-d.ensures))
@@ -135,14 +127,14 @@ pub let_variable-check_with_env-requires-2 : goal.let_variable-check_with_env-re
 let_variable-check_with_env-requires-2 t c =
     let one = found c.check_with_env.new.work (two_first c.args.spot.place c.requires) c.in_ok-d.ensures in
     let sort = c.from.ensures ∙ c.number.ensures ∙ c.sort_kind-kind.ensures in
-    (omega (arith, c.decreases), body_ready c.args.spot.place c.requires one sort c.write_record.ensures c.args.name c.with_variable-inner.ensures.last_value.0 c.with_variable-inner.ensures.last_value.1 c.with_variable-inner.ensures.bound)
+    (omega (arith, c.decreases), body_ready c.args.spot.place c.requires one sort c.write_record.ensures c.args.name c.with_variable-inner.ensures.ends.0 c.with_variable-inner.ensures.ends.1 c.with_variable-inner.ensures.bound)
 
 pub let_variable-returns : goal.let_variable-returns
 let_variable-returns t c = λ q.
     let one = found c.check_with_env.new.work (two_first c.args.spot.place q) c.in_ok-d.ensures in
     let sort = c.from.ensures ∙ c.number.ensures ∙ c.sort_kind-kind.ensures in
-    let_told c.args.spot.place q one sort c.write_record.ensures c.args.name c.with_variable-inner.ensures.last_value.0 c.with_variable-inner.ensures.last_value.1 c.with_variable-inner.ensures.bound c.check_with_env-2.new.work c.check_with_env-2.result
-    (c.check_with_env-2.ensures (body_ready c.args.spot.place q one sort c.write_record.ensures c.args.name c.with_variable-inner.ensures.last_value.0 c.with_variable-inner.ensures.last_value.1 c.with_variable-inner.ensures.bound))
+    let_done c.args.spot.place q one sort c.write_record.ensures c.args.name c.with_variable-inner.ensures.ends.0 c.with_variable-inner.ensures.ends.1 c.with_variable-inner.ensures.bound c.check_with_env-2.new.work c.check_with_env-2.result
+    (c.check_with_env-2.ensures (body_ready c.args.spot.place q one sort c.write_record.ensures c.args.name c.with_variable-inner.ensures.ends.0 c.with_variable-inner.ensures.ends.1 c.with_variable-inner.ensures.bound))
 
 pub test_negation-returns-in_err-a : goal.test_negation-returns-in_err-a
 test_negation-returns-in_err-a t c = λ q. passed_on _ _ _ _ _ _ c.in_err-a.field-0.0 c.from_residual.ensures.1 (then_refused _ (stopped c.check_with_env.new.work (one_first c.args.spot.place q) c.in_err-a.field-0.0 c.in_err-a.ensures))
@@ -164,9 +156,9 @@ unary-returns t c = λ k q. unary_done c.args.spot.place q (found c.check_with_e
 pub check_with_env-returns-in_err-test-in_default : goal.check_with_env-returns-in_err-test-in_default
 check_with_env-returns-in_err-test-in_default t c = λ q.
     let n = c.in_default in
-    passed_on _ _ _ _ _ _ c.in_err-test-in_default.field-0.0 c.from_residual-in_err-test-in_default.ensures.1 (leaf_is c.args.spot.place q (text_head c.args.s.now c.args.spot.at q.text c.in_ok-head.ensures) (childless c.in_ok-head.head.kind n.not-Union n.not-Intersect n.not-Xor n.not-Difference n.not-Sequence n.not-LtlUntil n.not-Complement n.not-Star n.not-LtlNext n.not-TestNegation n.not-IfThenElse n.not-Let n.not-LetBitRange) c.in_err-test-in_default.ensures)
+    passed_on _ _ _ _ _ _ c.in_err-test-in_default.field-0.0 c.from_residual-in_err-test-in_default.ensures.1 (leaf_is c.args.spot.place q c.in_ok-head.ensures (childless c.in_ok-head.head.kind n.not-Union n.not-Intersect n.not-Xor n.not-Difference n.not-Sequence n.not-LtlUntil n.not-Complement n.not-Star n.not-LtlNext n.not-TestNegation n.not-IfThenElse n.not-Let n.not-LetBitRange) c.within-scope.ensures c.in_err-test-in_default.ensures)
 
 pub check_with_env-returns-in_ok-test-in_default : goal.check_with_env-returns-in_ok-test-in_default
 check_with_env-returns-in_ok-test-in_default t c = λ q.
     let n = c.in_default in
-    leaf_done c.args.spot.place q (text_head c.args.s.now c.args.spot.at q.text c.in_ok-head.ensures) (childless c.in_ok-head.head.kind n.not-Union n.not-Intersect n.not-Xor n.not-Difference n.not-Sequence n.not-LtlUntil n.not-Complement n.not-Star n.not-LtlNext n.not-TestNegation n.not-IfThenElse n.not-Let n.not-LetBitRange) c.in_ok-test-in_default.ensures _ refl
+    leaf_done c.args.spot.place q c.in_ok-head.ensures (childless c.in_ok-head.head.kind n.not-Union n.not-Intersect n.not-Xor n.not-Difference n.not-Sequence n.not-LtlUntil n.not-Complement n.not-Star n.not-LtlNext n.not-TestNegation n.not-IfThenElse n.not-Let n.not-LetBitRange) c.within-scope.ensures c.in_ok-test-in_default.ensures _ refl

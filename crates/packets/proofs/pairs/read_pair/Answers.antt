@@ -4,4 +4,4 @@ use Rattle.packets.proofs.PassLaws.{pair_taken}
 use Rattle.packets.proofs.pairs.read_pair.Goals as goal
 
 pub returns : goal.returns
-returns c = pair_taken c.args.s.now c.args.at c.in_ok-first.field-0.now c.in_ok-first.ensures.cases c.type_inv.s c.number_of-field.ensures (sym c.is_pair.ensures ∙ c.if-not-is_pair.false)
+returns c = pair_taken c.args.s.now c.args.at c.in_ok-nine.nine.now c.in_ok-nine.ensures.cases c.type_inv.s c.from_le_bytes-field.ensures (sym c.is_pair.ensures ∙ c.if-not-is_pair.false)

@@ -1,6 +1,8 @@
 -- `bindings::Bindings::with_variable` meets its contract.
+use mathlib.Core.Path.{refl}
 use native.Mathlib.Omega.{arith}
 use Rattle.desugar.proofs.Frames.{framed_kept, framed, framed_bound, lies_kept}
+use Rattle.desugar.specs.declared.bindings.FrameKind.TheVariants.{Variable}
 use Rattle.desugar.proofs.bindings.Bindings.with_variable.Goals as goal
 
 pub returns : goal.returns
@@ -8,18 +10,18 @@ returns c =
     let a = c.args in
     let p = c.requires in
     let xs = a.work.now in
-    let r = c.with_frame.ensures in
+    let w = c.write.ensures in
     let last = a.self.last in
-    let kept = framed_kept xs _ last a.top _ 0 a.name a.at a.count p.0 r.0 r.1 in record {
-      last_value = (r.0, kept);
+    let kept = framed_kept xs _ last a.top _ Variable a.name a.core.at a.core.count p.0 refl w in record {
+      ends = (refl, kept);
       bound = λ env core b lies. (
         record {
-          at = a.at;
-          count = a.count;
-          frame = framed xs _ last a.top _ 0 a.name a.at a.count p.0 r.0 r.1;
+          at = a.core.at;
+          count = a.core.count;
+          frame = framed xs _ last a.top _ Variable a.name a.core.at a.core.count p.0 refl w;
           lies = lies_kept kept p.1 lies;
-          below = omega (arith, p.1, r.0);
+          below = omega (arith, p.1);
         },
-        framed_bound xs _ last a.top _ 0 a.name a.at a.count p.0 r.0 r.1 env b,
+        framed_bound xs _ last a.top _ Variable a.name a.core.at a.core.count p.0 refl w env b,
       );
     }

@@ -15,7 +15,7 @@ write_term-requires c =
     let a = c.args in
     let same = ap (λ b. beq b a.upper) (sym c.bit.ensures) ∙ not-false _ c.if-bit-upper.false in
     let size = ap (λ x. cond x (2 * (a.self.width - a.i)) 0) same in
-    (omega arith, search rules, search rules, ready_under (7 ∷ 0 ∷ 0 ∷ []) c.requires.2 c.write_bare.ensures)
+    (omega arith, search rules, ready_under (7 ∷ 0 ∷ 0 ∷ []) c.requires.2 c.write_bare.ensures)
 
 pub returns : goal.returns
 returns c =

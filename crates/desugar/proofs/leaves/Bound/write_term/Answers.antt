@@ -15,4 +15,4 @@ returns c =
     let down : l.p ≡ suc a.i = omega arith in
     c.write_bit.ensures
     ∙ top_last b.start (literal_bits b.bits) b.width down (omega arith) a.work.now a.progress.to
-    (l.invariant.3 a.work.now (links_copied c.requires.3 copy.kept copy.copied copy.beyond)) l.invariant.1 a.v
+    (l.invariant.3 a.work.now (links_copied c.requires.2 copy.kept copy.copied copy.beyond)) l.invariant.1 a.v

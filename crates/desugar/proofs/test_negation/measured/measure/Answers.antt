@@ -13,7 +13,7 @@ use Rattle.desugar.proofs.test_negation.measured.measure.Goals as goal
 pub loop-j-init : goal.loop-j-init
 loop-j-init c = record {
   kept = kept_all _ _;
-  notes = λ t h e. moved (none _ _ (omega arith)) refl (sym (ap notes_all (over_at t h c.args.p.n (omega arith))));
+  notes = λ t h e. moved (none _ _ (omega arith)) refl (sym (ap notes_all (over_at t h c.args.p.core.count (omega arith))));
   last = λ l. absurd (omega arith);
 }
 

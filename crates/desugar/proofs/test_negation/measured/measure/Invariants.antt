@@ -14,6 +14,6 @@ abbrev pub invariant-loop-j : goal.invariant-loop-j
 invariant-loop-j l =
     record {
       kept : Kept l.p.notes l.initial.work l.work;
-      notes : (t : Core) → Lies l.initial.work l.p.at l.p.n t → is_test t ≡ true → Holds l.work (l.p.notes + l.j) (notes_all (forest_at l.j (t ∷ [])));
-      last : l.j < l.p.n → note_number l.last ≡ get_or l.work (l.p.notes + l.j) 0;
+      notes : (t : Core) → Lies l.initial.work l.p.core.at l.p.core.count t → is_test t ≡ true → Holds l.work (l.p.notes + l.j) (notes_all (forest_at l.j (t ∷ [])));
+      last : l.j < l.p.core.count → note_number l.last ≡ get_or l.work (l.p.notes + l.j) 0;
     }

@@ -15,7 +15,7 @@ bounds-work-s c = omega (arith, some_records c.requires.noted.0 c.requires.noted
 pub loop-j-init : goal.loop-j-init
 loop-j-init c = record {
   within = omega arith;
-  kept = kept_sets c.args.p.modes c.args.work.now (c.args.p.modes + c.args.p.n - 1) (0 ∷ []) (omega (arith, some_records c.requires.noted.0 c.requires.noted.1));
+  kept = kept_sets c.args.p.modes c.args.work.now (c.args.p.modes + c.args.p.core.count - 1) (0 ∷ []) (omega (arith, some_records c.requires.noted.0 c.requires.noted.1));
   run = λ t h. begin c.args.p c.requires.room h;
 }
 

@@ -20,7 +20,7 @@ pub loop-j-preserved : goal.loop-j-preserved
 loop-j-preserved c =
     let i = c.loop-j.invariant in
     let e = c.emit.ensures in record {
-      kept = rw e (kept_then i.kept (wrote_kept _ c.args.at c.args.to c.loop-j.j));
+      kept = rw e (kept_then i.kept (wrote_kept _ c.args.core.at c.args.to c.loop-j.j));
       turning = λ t h q. rw e (turn (rw i.kept.long c.requires.copy_room) c.loop-j-test.true (i.turning t h q)).1;
     }
 

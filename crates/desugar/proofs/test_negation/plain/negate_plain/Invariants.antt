@@ -11,5 +11,5 @@ abbrev pub invariant-loop-j : goal.invariant-loop-j
 invariant-loop-j l =
     record {
       kept : Kept l.to l.initial.work l.work;
-      turning : (t : Core) → Lies l.initial.work l.at l.n t → is_plain t ≡ true → Turning l.work t l.at l.n l.to l.j;
+      turning : (t : Core) → Lies l.initial.work l.core.at l.core.count t → is_plain t ≡ true → Turning l.work t l.core.at l.core.count l.to l.j;
     }
