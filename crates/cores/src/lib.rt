@@ -5,7 +5,6 @@ pub mod records;
 
 ghost use Rattle.std.specs.Prelude.{◌≡◌, ◌≤◌};
 ghost use Rattle.expr.specs.Answers.{answered};
-ghost use Rattle.expr.specs.Kinds.{kind_number};
 ghost use Rattle.cores.specs.Reading.{read_core};
 ghost use Rattle.cores.specs.Results.{widened, settled, core_answer, counts_of, Listable, Listed, ReadsBack};
 
@@ -22,17 +21,17 @@ pub struct Counts {
     pub fields: u32,
 }
 
-// The field count so far, with what the record of a kind and a field at a place needs.
+// The field count so far, with what the record of a kind and a field at a place needs. It answers for any number of a kind.
 pub fn widen(
     fields: Result<u32, Refused>,
-    kind: Kind,
+    kind: u8,
     field: u32,
     place: usize,
 ) -> Result<u32, Refused>
-    ensures { answered result ≡ widened (answered fields) (kind_number kind) field place }
+    ensures { answered result ≡ widened (answered fields) kind field place }
 {
     let most = fields?;
-    if kind != Kind::Assign && kind != Kind::Test {
+    if kind != Kind::Assign as u8 && kind != Kind::Test as u8 {
         return Ok(most);
     }
     let Some(need) = field.checked_add(1) else {
@@ -71,7 +70,7 @@ fn judge(s: &[u8], room: usize) -> Result<Counts, Refused>
             Err(refusal) => return Err(refusal.at(place)),
             Ok(r) => r,
         };
-        fields = widen(fields, r.kind, r.field, place);
+        fields = r.widen(fields, place);
         due = due - 1 + r.kind.arity();
         at += r.size;
         place += 1;
@@ -89,7 +88,7 @@ fn write_records(s: &[u8], list: &mut [u32])
 {
     let mut at = 0;
     let mut to = 0;
-    // Records differ in size: no `for` counts the bytes.
+    // Records differ in size: no `for` counts the bytes, and an iterator over them would be a type with the laws of its trait for one loop.
     while at < s.len() {
         let short = records::read_short(s, at);
         let Ok(r) = records::read_core_record(short, s, at) else {

@@ -1,10 +1,12 @@
 // One record of a core.
 ghost use Rattle.std.specs.Prelude.{◌≡◌, ◌+◌, ◌*◌, ◌≤◌, length, drop};
 ghost use Rattle.cores.specs.Reading.{term_kind};
-ghost use Rattle.cores.specs.Results.{operator_bytes, atom_bytes, CoreRecordFound, ShortFound};
+ghost use Rattle.cores.specs.Results.{operator_bytes, atom_bytes, CoreRecordFound, ShortFound, widened};
+ghost use Rattle.expr.specs.Answers.{answered};
+ghost use Rattle.expr.specs.Kinds.{kind_number};
 
 use expr::kind::Kind;
-use refusals::Refusal;
+use refusals::{Refusal, Refused};
 
 // A record that was read, and its length in bytes.
 #[derive(Clone, Copy, Debug, PartialEq, Eq)]
@@ -15,7 +17,16 @@ pub struct CoreRecord {
     pub size: usize,
 }
 
-// Whether the record at the front of the bytes has a kind from 16 to 26.
+impl CoreRecord {
+    // The field count so far, with what this record at a place needs.
+    pub fn widen(self, fields: Result<u32, Refused>, place: usize) -> Result<u32, Refused>
+        ensures { answered result ≡ widened (answered fields) (kind_number self.kind) self.field place }
+    {
+        crate::widen(fields, self.kind.number(), self.field, place)
+    }
+}
+
+// Whether the record at the front of the bytes has a kind from 16 to 26. The byte is looked at, since a record of a core has no Kind before it is read.
 fn is_term_kind(s: &[u8]) -> bool
     ensures { result ≡ term_kind s.now }
 {
@@ -50,14 +61,15 @@ pub fn is_operator(map: u8, kind: u8) -> bool
     (map == 1) & ((7 <= kind) & (kind <= 15))
 }
 
-// Whether these are the map, the kind, the field and, where the map has it, the value of an Assign or Test with a field that stands.
+// Whether these are the map, the kind, the field and, where the map has it, the value of an Assign or Test with a field that stands: bytes, and no kind
+// yet.
 pub fn is_atom(map: u8, kind: u8, field: u32, value: u8) -> bool
     ensures { result ≡ atom_bytes map kind field value }
 {
     ((map == 5) | ((map == 37) & (value == 1))) & (((kind == 5) | (kind == 6)) & (field != 0))
 }
 
-// The number of four bytes, the lowest first.
+// The number of four bytes, the lowest first: the library's, for a caller that has them one by one.
 pub fn number_of(a: u8, b: u8, c: u8, d: u8) -> u32
     ensures { result ≡ a + 256 * (b + 256 * (c + 256 * d)) }
 {

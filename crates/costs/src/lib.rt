@@ -51,7 +51,8 @@ fn match_cost(
     Ok(judged.size())
 }
 
-// The cost of a pattern that a host lends, on the fields from `start` up to `end`.
+// The cost of a pattern that a host lends, on the fields from `start` up to `end`. The parameters and the number of the pattern are those of the C
+// interface.
 pub fn pattern_cost(
     start: u32,
     end: u32,

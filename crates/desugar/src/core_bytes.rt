@@ -7,7 +7,7 @@ ghost use Rattle.expr.specs.Form.{encode_core};
 ghost use Rattle.desugar.specs.Memory.{words};
 ghost use Rattle.desugar.specs.CoreBytes.{core_record, CoreShape, Put, Writable, CoreWritten, record_at, bytes_of_record};
 
-use expr::kind::Kind;
+use crate::memory::FIRST_OPERATOR;
 
 // The most bytes of a record.
 const MAX_RECORD: usize = 7;
@@ -19,9 +19,6 @@ const FIELD_BIT: u8 = 4;
 
 const VALUE_BIT: u8 = 32;
 
-// The lowest kind of an operator.
-const FIRST_OPERATOR: u32 = Kind::Union as u32;
-
 // A record of a core. Its kind stays the number that it is in work memory and in the bytes: a Kind would be made of each record and taken
 // apart again.
 #[derive(Clone, Copy, Debug, PartialEq, Eq)]
@@ -31,7 +28,7 @@ pub(crate) struct CoreRecord {
     pub value: u32,
 }
 
-// 1 where a number is not zero, and so is written.
+// 1 where a number is not zero, and so is written: the definition of the contracts below.
 fn standing(v: u32) -> u8
     ensures { result ≡ bit (stands v) }
 {

@@ -13,7 +13,7 @@ ghost use Rattle.desugar.specs.BindingWords.{Bound};
 ghost use Rattle.desugar.specs.WalkWords.{LeafReady, WalkedAs};
 ghost use Rattle.desugar.specs.RangedWords.{DrawRoom, EnvRoom, atom_of};
 
-use crate::memory::{Region, write_record};
+use crate::memory::{Region, write_bare, write_bit};
 use crate::operands::Walked;
 use crate::walk::Spot;
 use expr::kind::Kind;
@@ -25,12 +25,12 @@ fn write_atom(head: Head, work: &mut [u32], top: usize)
     requires { (kind_number head.kind ≤ 6) × (top + 3 ≤ length work.old) }
     ensures { (s : List ℕ) → work.new ≡ sets work.old top (words (leafCore (atom_of (record_of s head)))) }
 {
-    let kind = u32::from(head.kind.number());
-    if kind < 5 {
-        write_record(work, top, kind, 0, 0);
-        return;
+    match head.kind {
+        Kind::Assign | Kind::Test => {
+            write_bit(work, top, head.kind, head.start, head.number == 1)
+        }
+        _ => write_bare(work, top, head.kind),
     }
-    write_record(work, top, kind, head.start, u32::from(head.number == 1));
 }
 
 // The core of an atom.

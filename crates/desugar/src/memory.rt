@@ -7,6 +7,9 @@ ghost use Rattle.desugar.specs.Memory.{Holds, Kept, CopyRoom};
 
 use expr::kind::Kind;
 
+// The lowest kind of an operator.
+pub(crate) const FIRST_OPERATOR: u32 = Kind::Union as u32;
+
 // Where a core lies, and how many records it has.
 #[derive(Clone, Copy, Debug, PartialEq, Eq)]
 pub struct Region {

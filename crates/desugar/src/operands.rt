@@ -45,7 +45,7 @@ pub(crate) fn drops(kind: Kind, core: &[u32]) -> bool
     if core.len() != 3 {
         return false;
     }
-    core[0] == 1
+    core[0] == Kind::One as u32
 }
 
 // Draws one record and writes it below its operands.

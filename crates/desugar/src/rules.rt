@@ -1,4 +1,4 @@
-// The rules 14 to 21, on a use of a range.
+// The rules 14 to 21, on a use of a range. The number of fields stands beside the use, which is judged for those of a record or of an alias.
 ghost use Rattle.std.specs.Prelude.{◌≡◌, ℕ};
 ghost use Rattle.literals.specs.Patterns.{Cidr, Wildcard, IpRange};
 ghost use Rattle.literals.specs.Results.{literal_bits};

@@ -24,7 +24,8 @@ fn byte_at(bytes: &[u8], i: usize) -> u8
 }
 
 impl Standing {
-    // Those of some bits and of one above them: the term of each that stands has two records for each bit from it up.
+    // Those of some bits and of one above them: the term of each that stands has two records for each bit from it up. The definition of the laws of
+    // `Stands`.
     fn with_bit(self, b: bool) -> Self
         requires { (self.count ≤ 256) × (self.size ≤ 65536) }
         ensures { (result.count ≡ self.count + bit b) × (result.size ≡ self.size + 2 * (self.count + bit b)) }

@@ -3,7 +3,8 @@
 // Netkat's check walks a term in this shape too. One walk over a trait is no plainer: between the children and behind them cores are moved,
 // dropped, joined, negated and paid for here, and there two bits are joined, so the trait would have a method and a law for each of these
 // steps of seven nodes, and both walks would stand written out in its two impls.
-// What a node with one child asks for is of lent bytes, memory and spot together: it stands in the clauses of three functions and in no type.
+// What a node with one child asks stands in the clauses of three functions: a type for it would hold the lent bytes, the lent memory and the spot,
+// be made for each node, and be taken apart again for each child, whose spot is another.
 ghost use Rattle.std.specs.Prelude.{◌≡◌, cond};
 ghost use Rattle.expr.specs.Terms.{Unary, Binary, TestNegation, IfThenElse, Let, LetBitRange};
 ghost use Rattle.expr.specs.Kinds.{kind_number};

@@ -103,6 +103,7 @@ impl TryFrom<u8> for Pattern {
 }
 
 impl Kind {
+    // The cast, which a public contract gives a name.
     pub fn number(self) -> u8
         ensures { result ≡ kind_number self }
     {
@@ -179,7 +180,8 @@ impl Kind {
     }
 }
 
-// How many children a record has, by the number of its kind. A number of no kind has none.
+// How many children a record has, by the number of its kind. A number of no kind has none: it answers for any, and decides by ranges, as document 01
+// has it.
 pub fn arity(kind: u8) -> usize
     ensures { result ≡ arity_of kind }
 {
@@ -192,7 +194,7 @@ pub fn arity(kind: u8) -> usize
     }
 }
 
-// Whether a core is a test where its operands are, by the number of its kind.
+// Whether a core is a test where its operands are, by the number of its kind: it answers for any.
 pub fn is_test_kind(kind: u8) -> bool
     ensures { result ≡ test_kind kind }
 {

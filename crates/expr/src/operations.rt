@@ -14,7 +14,7 @@ fn all_fragment(term: &[u8]) -> bool
     ensures { FragmentOf term.now result }
 {
     let mut at = 0;
-    // Records differ in size: no `for` counts the bytes.
+    // Records differ in size: no `for` counts the bytes, and an iterator over them would be a type with the laws of its trait for two loops.
     while at < term.len() {
         let Ok(head) = crate::records::read_record(&term[at..]) else {
             return false;
@@ -57,7 +57,7 @@ fn count_fields(term: &[u8]) -> Result<u32, Refused>
     let mut at = 0;
     let mut place = 0;
     let mut count = 0;
-    // Records differ in size: no `for` counts the bytes.
+    // Records differ in size: no `for` counts the bytes, and an iterator over them would be a type with the laws of its trait for two loops.
     while at < term.len() {
         let Ok(head) = crate::records::read_record(&term[at..]) else {
             return Ok(0);

@@ -1,6 +1,5 @@
 // Check: the rules 11 to 23 by the written term alone. A walk like desugaring's, which keeps whether a variable is a test, and makes no core:
-// why the two are not one stands at the other (desugar/src/walk.rt). What a node with one child asks for is of lent bytes, memory and spot
-// together, so it stands in the clauses of three functions and in no type.
+// why the two are not one, and why what a node with one child asks stands in three clauses, is said at the other (desugar/src/walk.rt).
 // The functions that take a record apart are inlined, so that a level of the term is one frame of the machine's stack.
 ghost use Rattle.std.specs.Prelude.{◌≡◌, Bool, ◌||◌, eqb};
 ghost use Rattle.expr.specs.Answers.{answered};
@@ -24,7 +23,8 @@ use expr::kind::Kind;
 use expr::records::Head;
 use refusals::{Refusal, Refused};
 
-// The numbers that the bindings may take: 8 for each of 256 levels, three for whether a variable is a test and five for its frame.
+// The numbers that the bindings may take: 8 for each of 256 levels, three for whether a variable is a test and five for its frame. They lie in an array
+// of this size, as there is no heap.
 const WORK: usize = 2048;
 
 // The bytes of a short term, and the numbers that its bindings may take.

@@ -5,7 +5,7 @@ ghost use Rattle.netkat.specs.Entry.{Answers, Call};
 use crate::Answer;
 
 // The cost of a pattern on the fields from `start` up to `end`, in 64 bits, the lower half first. The pattern is given by its number,
-// its prefix, and its literals, each as bytes and a length in bits.
+// its prefix, and its literals, each as bytes and a length in bits, as the C interface has them.
 pub fn netkat_cost(
     start: u32,
     end: u32,

@@ -82,7 +82,7 @@ pub extern "C" fn netkat_compute_subrange(
 }
 
 // The cost of a pattern on the fields from `start` up to `end`, in 64 bits, the lower half first. The pattern is given by its number,
-// its prefix, and its literals, each as bytes and a length in bits.
+// its prefix, and its literals, each as bytes and a length in bits: C has no other way to lend them.
 #[unsafe(no_mangle)]
 pub extern "C" fn netkat_cost(
     start: u32,

@@ -41,7 +41,7 @@ impl<'a> Cursor<'a> {
             bytes: self.bytes,
             at: self.at + r.size,
             place: self.place + 1,
-            fields: cores::widen(self.fields, r.kind, r.field, self.place),
+            fields: r.widen(self.fields, self.place),
         }
     }
 

@@ -79,7 +79,8 @@ fn feed(frames: &mut [[u32; 3]], from: usize, value: u64) -> Progress
     }
 }
 
-// The kind that is written for an operator: one of a single operand waits for it as for a second one.
+// The kind that is written for an operator: one of a single operand waits for it as for a second one. By number, since that is what a frame of the
+// list holds.
 fn opened_kind(kind: Kind) -> u32
     ensures { result ≡ opened_kind (kind_number kind) }
 {
@@ -111,6 +112,7 @@ pub(crate) fn step(
         let skip = skip - 1 + r.kind.arity();
         return Progress { skip, ..sofar };
     }
+    // The kinds of atoms are the lowest seven.
     if r.kind.number() < 7 {
         let leaf = capture.leaf_mask(r);
         return feed(frames, depth, leaf);

@@ -33,6 +33,7 @@ impl Kept {
 
 // At most sixty-four packets that lie end to end, with what is asked of them again and again: where the last one ends, the mask of all, and masks of
 // fields. In contracts it is the list of their bytes.
+// The table is of a fixed size, as there is no heap.
 #[derive(Drop)]
 pub struct Capture<'a> {
     packets: &'a [u8],
@@ -50,7 +51,7 @@ impl<'a> Model for Capture<'a> {
     ghost invariant = { λ c. Captured c.packets.now c.lengths.now c.end c.all c.kept };
 }
 
-// One packet more below the others.
+// One packet more below the others: a definition of the masks' contracts.
 fn with_bit(mask: u64, standing: bool) -> u64
     requires { 2 * mask + 1 < 2 ^ 64 }
     ensures { result ≡ bit standing + 2 * mask }

@@ -11,7 +11,8 @@ pub struct Pair {
     pub need: u32,
 }
 
-// Whether these nine bytes are the first of an operator of tests, and those of a Test behind it of a field that stands and is below the top one.
+// Whether these nine bytes are the first of an operator of tests, and those of a Test behind it of a field that stands and is below the top one: kinds
+// are bytes here, as nothing was read yet.
 fn is_pair(nine: &[u8; 9], field: u32) -> bool
     ensures { result ≡ pair_bytes (slice_index nine.now 0) (slice_index nine.now 1) (slice_index nine.now 2) (slice_index nine.now 3) field (slice_index nine.now 8) }
 {

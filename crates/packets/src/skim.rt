@@ -28,8 +28,10 @@ pub struct Skimmed<'a> {
 fn is_skimmed(kind: Kind) -> bool
     ensures { result ≡ (leb 6 (kind_number kind) && leb (kind_number kind) 11) }
 {
-    let number = kind.number();
-    (6 <= number) & (number <= 11)
+    matches!(
+        kind,
+        Kind::Test | Kind::Union | Kind::Intersect | Kind::Xor | Kind::Difference | Kind::Sequence
+    )
 }
 
 // Skips so many cores, as long as their records are those of tests and soon read: the others are left to the loop that reads all.

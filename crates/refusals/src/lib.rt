@@ -91,6 +91,7 @@ pub struct Refused {
 }
 
 impl Refusal {
+    // The cast, which a public contract gives a name.
     pub fn number(self) -> u8
         ensures { result ≡ number_of self }
     {

@@ -20,6 +20,7 @@ impl<'a> Reader<'a> {
         Ok(*front)
     }
 
+    // By the library: a name for it, and for the next.
     pub fn short(&mut self) -> Result<u16, CaseError>
         ensures { OnOk result (length self.new.rest.now < length self.old.rest.now) }
     {

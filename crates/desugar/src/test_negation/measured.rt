@@ -7,6 +7,8 @@ ghost use Rattle.desugar.specs.NegationRun.{note_number, notes_of, note_at, left
 
 use super::notes::Note;
 use super::places::Places;
+use crate::memory::FIRST_OPERATOR;
+use expr::kind::Kind;
 
 // The note of the second operand of the record whose note stands at `note`; `left` is the first one's.
 pub(crate) fn right_note(work: &[u32], note: usize, left: Note) -> Note
@@ -24,16 +26,16 @@ fn own_note(work: &[u32], here: usize, note: usize, last: Note) -> Note
     ensures fits { note_number result < 2 ^ 32 }
 {
     let kind = work[here];
-    if kind < 7 {
+    if kind < FIRST_OPERATOR {
         return Note {
             size: 1,
-            one: kind == 1,
+            one: kind == Kind::One as u32,
         };
     }
     let right = right_note(work, note, last);
     Note {
         size: last.size + right.size + 1,
-        one: kind == 11 && last.one && right.one,
+        one: kind == Kind::Sequence as u32 && last.one && right.one,
     }
 }
 

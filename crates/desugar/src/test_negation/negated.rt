@@ -1,4 +1,4 @@
-// The forward pass: a stack of modes beside the records, which are gone through once.
+// The forward pass: a stack of modes beside the records, which are gone through once. Kinds are numbers of work memory, which C lends.
 ghost use Rattle.std.specs.Prelude.{◌≡◌, ◌+◌, ◌*◌, ◌≤◌, ◌<◌, length, get_or};
 ghost use Rattle.expr.specs.Terms.{Core};
 ghost use Rattle.desugar.specs.Memory.{Kept};
@@ -6,6 +6,8 @@ ghost use Rattle.desugar.specs.NegationRun.{Run, Stepped, Noted, Result};
 
 use super::modes::Mode;
 use super::places::Places;
+use crate::memory::FIRST_OPERATOR;
+use expr::kind::Kind;
 
 // The top of the stack, and how many records are written; above the limit none of this turn's are.
 #[derive(Clone, Copy, Debug, PartialEq, Eq)]
@@ -42,7 +44,7 @@ fn plain_turn(work: &mut [u32], p: Places, j: usize, kind: u32, s: Next) -> Next
         field,
         super::written::new_value(Mode::Negate, kind, value),
     );
-    if kind < 7 {
+    if kind < FIRST_OPERATOR {
         return Next {
             top: top + 1,
             made: made + 1,
@@ -71,7 +73,7 @@ fn turn(work: &mut [u32], p: Places, j: usize, s: Next) -> Next
     let kind = work[here];
     // Tested as a number: made a Mode before the test, it costs 6% of the instructions on negated differences.
     let number = work[top];
-    if number == Mode::Negate as u32 && kind < 9 {
+    if number == Mode::Negate as u32 && kind < Kind::Xor as u32 {
         return plain_turn(work, p, j, kind, s);
     }
     let mode = Mode::from(number);
@@ -85,7 +87,7 @@ fn turn(work: &mut [u32], p: Places, j: usize, s: Next) -> Next
         };
     }
     super::written::emit(work, here, mode, written, p.out + 3 * made);
-    if kind < 7 {
+    if kind < FIRST_OPERATOR {
         return Next {
             top: top + 1,
             made: made + k,

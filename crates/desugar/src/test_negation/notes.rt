@@ -9,7 +9,7 @@ pub struct Note {
 }
 
 impl Note {
-    // As work memory has it.
+    // As work memory has it: the definition of the contract.
     pub(crate) fn number(self) -> u32
         requires { note_number self < 2 ^ 32 }
         ensures { result ≡ note_number self }

@@ -1,4 +1,5 @@
-// What is written for one record of a core, and the modes of its operands.
+// What is written for one record of a core, and the modes of its operands: functions of a mode and a kind, as the definitions are. Kinds are numbers of
+// work memory, which C lends.
 ghost use Rattle.std.specs.Prelude.{◌≡◌, ◌+◌, ◌*◌, ◌-◌, ◌≤◌, ◌<◌, length, get_or, set};
 ghost use Rattle.std.proofs.lemmas.List.Edits.{sets};
 ghost use Rattle.desugar.specs.NegationRun.{TwoNotes, code, side_code, written_size, drop_at, count_of, new_kind, new_value, own_words, left_code, right_code};
@@ -13,7 +14,7 @@ pub(crate) fn dropped(work: &[u32], note: usize, mode: Mode, kind: u32) -> Optio
     requires { kind ≡ 11 → TwoNotes work.now note }
     ensures { side_code result ≡ drop_at work.now note (code mode) kind }
 {
-    if mode != Mode::Again || kind != 11 {
+    if mode != Mode::Again || kind != Kind::Sequence as u32 {
         return None;
     }
     let left = Note::from(work[note + 1]);

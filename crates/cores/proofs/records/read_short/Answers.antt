@@ -1,4 +1,4 @@
--- `cores::records::read_short` meets its contract.
+-- `cores::records::read_short` meets its contract. Written out, so that a wrong program is refused by the fact that differs.
 use mathlib.Core.Path.{◌≡◌, sym, ◌∙◌}
 use native.Mathlib.Omega.{arith}
 use Prim.Native.Nat.{◌+◌}

@@ -1,4 +1,4 @@
--- `literals::BitSlice::bit` meets its contract: a literal has the bits of its bytes below its length.
+-- `literals::BitSlice::bit` meets its contract. Written out, so that a wrong program is refused by the fact that differs.
 use mathlib.Core.Path.{sym, ◌∙◌}
 use mathlib.Core.Bool.{false}
 use native.Mathlib.Omega.{arith}

@@ -19,28 +19,28 @@ new_value-requires c =
     let p = c.requires in
     turn_value p.room p.left p.within p.run.1
 
-pub returns-then-kind-lt7 : goal.returns-then-kind-lt7
-returns-then-kind-lt7 c =
+pub returns-then-kind-lt-FIRST_OPERATOR : goal.returns-then-kind-lt-FIRST_OPERATOR
+returns-then-kind-lt-FIRST_OPERATOR c =
     let w = c.write_record.ensures in
     let k = c.new_kind.ensures in
     let v = c.new_value.ensures in
     let p = c.requires in
     let q = p.negates_low_kind in record {
       kept = rw (w, k, v) (plain_kept p.room p.left p.within p.run.1 q.0 q.1 q.2);
-      stepped = λ t h. rw (w, k, v) (plain_leaf p.room p.left p.within h q.0 q.1 q.2 c.if-p-made.false c.if-kind-lt7.true);
+      stepped = λ t h. rw (w, k, v) (plain_leaf p.room p.left p.within h q.0 q.1 q.2 c.if-p-made.false c.if-kind-lt-FIRST_OPERATOR.true);
     }
 
 pub overflow_sub-work : goal.overflow_sub-work
 overflow_sub-work c =
     let p = c.requires in
     let q = p.negates_low_kind in
-    omega (arith, plain_deep p.room p.left p.within p.run.1 q.0 q.1 q.2 c.if-p-made.false c.if-kind-lt7.false)
+    omega (arith, plain_deep p.room p.left p.within p.run.1 q.0 q.1 q.2 c.if-p-made.false c.if-kind-lt-FIRST_OPERATOR.false)
 
 pub overflow_sub-result : goal.overflow_sub-result
 overflow_sub-result c =
     let p = c.requires in
     let q = p.negates_low_kind in
-    omega (arith, plain_deep p.room p.left p.within p.run.1 q.0 q.1 q.2 c.if-p-made.false c.if-kind-lt7.false)
+    omega (arith, plain_deep p.room p.left p.within p.run.1 q.0 q.1 q.2 c.if-p-made.false c.if-kind-lt-FIRST_OPERATOR.false)
 
 pub returns : goal.returns
 returns c =
@@ -49,6 +49,6 @@ returns c =
     let v = c.new_value.ensures in
     let p = c.requires in
     let q = p.negates_low_kind in record {
-      kept = rw (w, k, v) (plain_pushed p.room p.left p.within p.run.1 q.0 q.1 q.2 c.if-p-made.false c.if-kind-lt7.false);
-      stepped = λ t h. rw (w, k, v) (plain_turned p.room p.left p.within h q.0 q.1 q.2 c.if-p-made.false c.if-kind-lt7.false);
+      kept = rw (w, k, v) (plain_pushed p.room p.left p.within p.run.1 q.0 q.1 q.2 c.if-p-made.false c.if-kind-lt-FIRST_OPERATOR.false);
+      stepped = λ t h. rw (w, k, v) (plain_turned p.room p.left p.within h q.0 q.1 q.2 c.if-p-made.false c.if-kind-lt-FIRST_OPERATOR.false);
     }

@@ -27,14 +27,14 @@ emit-requires c =
       omega (arith, p.room, p.within, c.size-k.ensures, c.if-p-made.false),
     )
 
-pub returns-then-kind-lt7 : goal.returns-then-kind-lt7
-returns-then-kind-lt7 c =
+pub returns-then-kind-lt-FIRST_OPERATOR : goal.returns-then-kind-lt-FIRST_OPERATOR
+returns-then-kind-lt-FIRST_OPERATOR c =
     let e = c.emit.ensures in
     let p = c.requires in
     let d = c.dropped-drop.ensures in
     let k = c.size-k.ensures ∙ c.written-written.ensures in record {
       kept = rw (e, ← c.size-k.ensures) (wrote_kept p.room p.left p.within p.run.1 c.from-mode.ensures d k);
-      stepped = λ t h. rw (e, ← c.size-k.ensures) (leaf_turn p.room p.left p.within h c.from-mode.ensures d k c.if-p-made.false c.if-kind-lt7.true);
+      stepped = λ t h. rw (e, ← c.size-k.ensures) (leaf_turn p.room p.left p.within h c.from-mode.ensures d k c.if-p-made.false c.if-kind-lt-FIRST_OPERATOR.true);
     }
 
 pub push-requires : goal.push-requires
@@ -42,7 +42,7 @@ push-requires c =
     let p = c.requires in
     let d = c.dropped-drop.ensures in
     let k = c.size-k.ensures ∙ c.written-written.ensures in (
-      omega (arith, deep_turn p.room p.left p.within p.run.1 c.from-mode.ensures d k c.if-p-made.false c.if-kind-lt7.false),
+      omega (arith, deep_turn p.room p.left p.within p.run.1 c.from-mode.ensures d k c.if-p-made.false c.if-kind-lt-FIRST_OPERATOR.false),
       omega (arith, turn_top p.room p.left p.within p.run.1, c.emit.auto.work),
     )
 
@@ -51,7 +51,7 @@ overflow_sub-result c =
     let p = c.requires in
     let d = c.dropped-drop.ensures in
     let k = c.size-k.ensures ∙ c.written-written.ensures in
-    omega (arith, deep_turn p.room p.left p.within p.run.1 c.from-mode.ensures d k c.if-p-made.false c.if-kind-lt7.false)
+    omega (arith, deep_turn p.room p.left p.within p.run.1 c.from-mode.ensures d k c.if-p-made.false c.if-kind-lt-FIRST_OPERATOR.false)
 
 pub returns : goal.returns
 returns c =
@@ -59,6 +59,6 @@ returns c =
     let p = c.requires in
     let d = c.dropped-drop.ensures in
     let k = c.size-k.ensures ∙ c.written-written.ensures in record {
-      kept = rw (c.push.ensures, e, ← c.size-k.ensures) (both_kept p.room p.left p.within p.run.1 c.from-mode.ensures d k c.if-p-made.false c.if-kind-lt7.false);
-      stepped = λ t h. rw (c.push.ensures, e, ← c.size-k.ensures) (op_turn p.room p.left p.within h c.from-mode.ensures d k c.if-p-made.false c.if-kind-lt7.false);
+      kept = rw (c.push.ensures, e, ← c.size-k.ensures) (both_kept p.room p.left p.within p.run.1 c.from-mode.ensures d k c.if-p-made.false c.if-kind-lt-FIRST_OPERATOR.false);
+      stepped = λ t h. rw (c.push.ensures, e, ← c.size-k.ensures) (op_turn p.room p.left p.within h c.from-mode.ensures d k c.if-p-made.false c.if-kind-lt-FIRST_OPERATOR.false);
     }
