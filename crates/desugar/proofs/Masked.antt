@@ -124,6 +124,10 @@ clear_one m i e = clear_next m i ∙ ap (λ b. clear (stretch m 0 i) + cond b 0 
 pub clear_none : (m : Bits) (i : ℕ) → get_or m i false ≡ true → clear (stretch m 0 (i + 1)) ≡ clear (stretch m 0 i)
 clear_none m i e = clear_next m i ∙ ap (λ b. clear (stretch m 0 i) + cond b 0 1) e ∙ add-zero (clear (stretch m 0 i))
 
+-- a bit that is false is one more below any higher index
+pub clear_before : (m : Bits) (i j : ℕ) → get_or m i false ≡ false → i < j → clear (stretch m 0 i) + 1 ≤ clear (stretch m 0 j)
+clear_before m i j e h = omega (arith, clear_one m i e, clear_below m (i + 1) j (omega arith))
+
 -- the highest bit of a mask that is false is one of its bits, and not among those below it
 pub clear_last : (m : Bits) (w e : ℕ) → trim m w ≡ suc e → (e < w) × (clear (stretch m 0 e) + 1 ≤ clear (stretch m 0 w))
 clear_last m w e h =

@@ -1,6 +1,7 @@
 -- The core of a use of a range that keeps the rules, by the kind and the pattern of its record.
-use mathlib.Core.Path.{◌≡◌, sym, ap, subst, ◌∙◌}
+use mathlib.Core.Path.{◌≡◌, refl, sym, ap, subst, ◌∙◌}
 use mathlib.Core.Logic.{◌⊎◌}
+use mathlib.Core.Bool.{Bool}
 use mathlib.Core.List.{List}
 use Prim.Native.Nat.{ℕ, ◌+◌, ◌-◌, ◌≤◌}
 use native.Mathlib.Omega.{arith}
@@ -9,6 +10,9 @@ use lib.Seq.{sets}
 use Rattle.desugar.specs.declared.judged.JudgedUse.{JudgedUse}
 use Rattle.literals.specs.Patterns.{Pattern}
 use Rattle.expr.specs.Answers.{ok}
+use Rattle.expr.specs.Kinds.{kind_number, pattern_number}
+use Rattle.expr.specs.declared.kind.Kind.TheVariants as kind
+use Rattle.expr.specs.declared.kind.Pattern.TheVariants as pattern
 use Rattle.expr.specs.Terms.{Assign, Core, Intersect, Matches, One, Sequence, Test, Use, Where, size}
 use Rattle.expr.specs.Records.{Record}
 use Rattle.expr.specs.Form.{pattern_of}
@@ -20,7 +24,7 @@ use Rattle.desugar.specs.Memory.{words}
 use Rattle.desugar.specs.WalkWords.{use_of, where_of}
 use Rattle.desugar.specs.RangedWords.{record_in}
 use Rattle.desugar.proofs.RuleLaws.{literal_kept, exact_kept, cidr_kept, wildcard_kept, values_kept}
-use Rattle.desugar.proofs.LeafKinds.{kinds_in, of, cidr_is, wildcard_is, values_is, exact_is, literal_use, assigns_is, tests_is}
+use Rattle.desugar.proofs.LeafKinds.{kinds_in, of, sides, cidr_is, wildcard_is, values_is, exact_is, literal_use, assigns_is, tests_is}
 use Rattle.desugar.proofs.UseCores.{Leaf, assigns_leaf, tests_leaf, exact_leaf, cidr_leaf, wildcard_leaf, range_leaf}
 
 -- how many records were counted, and what was written, are those of the core
@@ -102,5 +106,43 @@ module _ (j : JudgedUse) {n : ℕ} (e : n ≡ j.fields.end - j.fields.start) whe
   pub use_kept : use_rule (where_of (record_in j.used)) (use_of (record_in j.used)) n 0 ≡ ok tt
   use_kept = subst (λ (m : ℕ). use_rule (where_of (record_in j.used)) (use_of (record_in j.used)) m 0 ≡ ok tt) (sym e) j.kept
 
-  pub pattern_kept : use_of (record_in j.used) ≡ Matches (pattern_of (record_in j.used)) → pattern_rule (pattern_of (record_in j.used)) n 0 ≡ ok tt
-  pattern_kept k = matches_kept (record_in j.used) (where_of (record_in j.used)) n use_kept k
+  -- an assignment or a test, by its kind
+  module _ (s : ℕ) where
+    abbrev literal : List Bool
+    literal = stretch (record_in j.used).lit_a 0 n
+
+    pub assigns_on : (j.used.kind ≡ kind.VarAssign) ⊎ (j.used.kind ≡ kind.BitRangeAssign) → Leaf (use_core (use_of (record_in j.used)) s n) (chain Sequence One (each_bit Assign s literal)) (chain_size n)
+    assigns_on k = assigns_core (record_in j.used) (where_of (record_in j.used)) n use_kept s (sides (ap kind_number) (ap kind_number) k)
+
+    pub tests_on : (j.used.kind ≡ kind.VarTest) ⊎ (j.used.kind ≡ kind.BitRangeTest) → Leaf (use_core (use_of (record_in j.used)) s n) (chain Intersect One (each_bit Test s literal)) (chain_size n)
+    tests_on k = tests_core (record_in j.used) (where_of (record_in j.used)) n use_kept s (sides (ap kind_number) (ap kind_number) k)
+
+  -- a match, by its pattern: what is written for its n fields is its core on them
+  module _ (k : use_of (record_in j.used) ≡ Matches (pattern_of (record_in j.used))) (s : ℕ) where
+    abbrev h : Record
+    h = record_in j.used
+
+    pattern_kept : pattern_rule (pattern_of h) n 0 ≡ ok tt
+    pattern_kept = matches_kept h (where_of h) n use_kept k
+
+    on_fields : {written : Core} {count : ℕ} → Leaf (use_core (Matches (pattern_of h)) s n) written count
+        → Leaf (use_core (Matches (pattern_of h)) s (j.fields.end - j.fields.start)) written count
+    on_fields {written} {count} l = subst (λ (m : ℕ). Leaf (use_core (Matches (pattern_of h)) s m) written count) e l
+
+    pub cidr_on : j.used.pattern ≡ pattern.Cidr
+        → Leaf (use_core (Matches (pattern_of h)) s (j.fields.end - j.fields.start)) (chain Intersect One (each_bit Test (s + (n - j.used.number)) (stretch h.lit_a (n - j.used.number) j.used.number))) (chain_size j.used.number)
+    cidr_on p = on_fields (cidr_core h n pattern_kept s j.used.number refl (ap pattern_number p))
+
+    pub wildcard_on : j.used.pattern ≡ pattern.Wildcard
+        → Leaf (use_core (Matches (pattern_of h)) s (j.fields.end - j.fields.start)) (chain Intersect One (masked_tests s (stretch h.lit_a 0 n) (stretch h.lit_b 0 n))) (chain_size (clear (stretch h.lit_b 0 n)))
+    wildcard_on p = on_fields (wildcard_core h n pattern_kept s (ap pattern_number p))
+
+    pub values_on : j.used.pattern ≡ pattern.IpRange
+        → Leaf (use_core (Matches (pattern_of h)) s (j.fields.end - j.fields.start)) (between s (stretch h.lit_a 0 n) (stretch h.lit_b 0 n)) (between_size (stretch h.lit_a 0 n) (stretch h.lit_b 0 n))
+    values_on p = on_fields (values_core h n pattern_kept s (ap pattern_number p))
+
+    pub exact_on : j.used.pattern ≡ pattern.Exact
+        → Leaf (use_core (Matches (pattern_of h)) s (j.fields.end - j.fields.start)) (chain Intersect One (each_bit Test s (stretch h.lit_a 0 n))) (chain_size n)
+    exact_on p =
+        let other : (m : ℕ) → 1 ≤ m → pattern_number j.used.pattern ≡ m → ⊥ = λ m l q. omega (arith, l, q, ap pattern_number p) in
+        on_fields (exact_core h n pattern_kept s (other 1 (omega arith)) (other 2 (omega arith)) (other 3 (omega arith)))

@@ -105,8 +105,8 @@ pub struct Progress {
     pub done: usize,
 }
 
-// A bound of a range: a literal padded to the range's width, and the range's first field. `upper` says which of the two a literal is tested as: a flag, as
-// the definitions `bound` and `bound_size` take one, and no more than a bit's value to them.
+// A bound of a range: a literal padded to the range's width, and the range's first field. `upper` says which of the two a literal is tested as: a flag,
+// as the definitions `bound` and `bound_size` have it.
 #[derive(Clone, Copy, Debug)]
 pub struct Bound<'a> {
     pub start: u32,

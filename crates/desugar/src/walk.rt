@@ -1,7 +1,7 @@
 // The walk over a term: recursion over its parts, each child's core on top of the stack. The functions that take a record apart are inlined, so
 // that a level of the term is one frame of the machine's stack.
 // Netkat's check walks a term in this shape too. One walk over a trait is no plainer: between the children and behind them cores are moved,
-// dropped, joined, negated and paid for here, and there two bits are joined, so the trait would have a method and a law for each of these
+// dropped, joined and negated here, and records drawn; there two bits are joined. So the trait would have a method and a law for each of these
 // steps of seven nodes, and both walks would stand written out in its two impls.
 // What a node with one child asks stands in the clauses of three functions: a type for it would hold the lent bytes, the lent memory and the spot,
 // be made for each node, and be taken apart again for each child, whose spot is another.

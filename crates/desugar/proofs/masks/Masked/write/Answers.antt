@@ -12,7 +12,7 @@ use Rattle.expr.specs.Terms.{Intersect, One}
 use Rattle.desugar.specs.LeafWords.{trim}
 use Rattle.desugar.specs.Leaves.{chain}
 use Rattle.desugar.specs.Memory.{words}
-use Rattle.desugar.proofs.Masked.{clear_below, clear_last, clear_none, clear_one, masked_last, masked_link, masked_none, masked_skip}
+use Rattle.desugar.proofs.Masked.{clear_before, clear_last, clear_none, clear_one, masked_last, masked_link, masked_none, masked_skip}
 use Rattle.desugar.proofs.masks.Masked.write.Goals as goal
 use Rattle.desugar.proofs.masks.Masked.write.Goals.{then-not-bit, else-not-bit}
 
@@ -32,16 +32,10 @@ loop-i-init c =
     (high, inside.0, omega arith, omega arith, refl, refl)
 
 pub write_link-requires : goal.write_link-requires
-write_link-requires c =
-    let m = literal_bits c.args.self.mask in
-    let i = c.loop-i.i in
-    omega (arith, clear_one m i (sym c.if-not-bit.ensures), clear_below m (i + 1) (c.trimmed-end.result - 1) (omega arith))
+write_link-requires c = omega (arith, clear_before (literal_bits c.args.self.mask) c.loop-i.i (c.trimmed-end.result - 1) (sym c.if-not-bit.ensures) (omega arith))
 
 pub overflow_add-to : goal.overflow_add-to
-overflow_add-to c =
-    let m = literal_bits c.args.self.mask in
-    let i = c.loop-i.i in
-    omega (arith, clear_one m i (sym c.if-not-bit.ensures), clear_below m (i + 1) (c.trimmed-end.result - 1) (omega arith))
+overflow_add-to c = omega (arith, clear_before (literal_bits c.args.self.mask) c.loop-i.i (c.trimmed-end.result - 1) (sym c.if-not-bit.ensures) (omega arith))
 
 pub loop-i-preserved : goal.loop-i-preserved
 loop-i-preserved c =
