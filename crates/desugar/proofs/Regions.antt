@@ -1,16 +1,18 @@
 -- Laws of regions: a region taken apart and put together, and what stores leave of it.
 use mathlib.Core.Path.{◌≡◌, refl, sym, ap, ◌∙◌, subst}
 use mathlib.Core.Bool.{Bool, true, false}
+use mathlib.Core.Logic.{◌⊎◌, inl, inr}
 use mathlib.Core.List.{List, [], ◌∷◌, ◌++◌}
 use Prim.Native.Nat.{ℕ, zero, suc, ◌+◌, ◌-◌, ◌*◌, ◌/◌, ◌≤◌, ◌<◌}
 use native.Mathlib.Nat.{not-suc-le-zero, le_of_suc-le-suc, add-suc, add-zero, suc-add, zero-add}
 use native.Mathlib.Omega.{arith}
+use borrow.Author.Count.{below_more}
 use borrow.Author.Tests.{ltb-false, ltb-true}
 use lib.Dec.{ltb}
 use lib.ListN.{length, take, drop, get_or, set, length-append, length-set, get_or-append, length-take, length-drop}
 use lib.Seq.{sets, length-sets, get_or-append-add, get_or-set_same, get_or-set_other, ext_get_or, get_or-take, get_or-drop}
 use Rattle.expr.specs.Terms.{Core, leaf, one, two, size}
-use Rattle.desugar.specs.Memory.{words, Holds, Kept, Lies}
+use Rattle.desugar.specs.Memory.{words, Holds, Kept, CopyRoom, Lies}
 
 -- the same element, at an index that is equal
 pub same_at : (xs : List ℕ) {i j : ℕ} → i ≡ j → get_or xs i 0 ≡ get_or xs j 0
@@ -137,6 +139,40 @@ part xs i ys h =
     let long : length (take (length ys) (drop i xs)) ≡ length ys = simp (length-take, length-drop) (omega (arith, h.fits)) in
     ext_get_or 0 (take (length ys) (drop i xs)) ys long
     (λ k l. get_or-take (length ys) (drop i xs) k 0 (omega arith) ∙ get_or-drop i xs k 0 ∙ h.each k (omega arith))
+
+-- ## A region that is copied, one number a turn
+
+-- after i turns: the first i numbers are copied, and the others stand where they stood
+pub record Copied (xs₀ xs : List ℕ) (from to count i : ℕ) : Type 0 where
+  pub kept : Kept to xs₀ xs
+  pub moved : (k : ℕ) → k < i → get_or xs (to + k) 0 ≡ get_or xs₀ (from + k) 0
+  pub others : (k : ℕ) → i ≤ k → k < count → get_or xs (from + k) 0 ≡ get_or xs₀ (from + k) 0
+  pub behind : (k : ℕ) → to + count ≤ k → get_or xs k 0 ≡ get_or xs₀ k 0
+
+pub copied_none : (xs : List ℕ) (from to count : ℕ) → Copied xs xs from to count 0
+copied_none xs from to count = record { kept = kept_all to xs; moved = λ k l. absurd (omega arith); others = λ k l m. refl; behind = λ k l. refl }
+
+module _ (xs₀ xs : List ℕ) (from to count i : ℕ) (room : CopyRoom (length xs₀) from to count) where
+  -- what is yet to be copied is not overwritten
+  others_apart : (to ≤ from) ⊎ (from + count ≤ to) → (k : ℕ) → i < k → k < count → from + k ≡ to + i → ⊥
+  others_apart (inl h) k l m e = omega arith
+  others_apart (inr h) k l m e = omega arith
+
+  pub copied_more : i < count → Copied xs₀ xs from to count i → Copied xs₀ (set xs (to + i) (get_or xs (from + i) 0)) from to count (i + 1)
+  copied_more l c = record {
+    kept = kept_then c.kept (kept_sets to xs (to + i) (get_or xs (from + i) 0 ∷ []) (omega arith));
+    moved = below_more (λ (k : ℕ). get_or (set xs (to + i) (get_or xs (from + i) 0)) (to + k) 0 ≡ get_or xs₀ (from + k) 0) i
+        (λ k l. get_or-set_other xs (to + i) (to + k) (get_or xs (from + i) 0) 0 (omega arith) ∙ c.moved k l)
+        (get_or-set_same xs (to + i) (get_or xs (from + i) 0) 0 (omega (arith, c.kept.long, room.target)) ∙ c.others i (omega arith) l);
+    others = λ k m n. get_or-set_other xs (to + i) (from + k) (get_or xs (from + i) 0) 0 (others_apart room.apart k (omega arith) n) ∙ c.others k (omega arith) n;
+    behind = λ k m. get_or-set_other xs (to + i) k (get_or xs (from + i) 0) 0 (omega arith) ∙ c.behind k m;
+  }
+
+  pub copied_all : count ≤ i → Copied xs₀ xs from to count i → (ys : List ℕ) → length ys ≡ count → Holds xs₀ from ys → Holds xs to ys
+  copied_all done c ys long h = record {
+    fits = omega (arith, c.kept.long, room.target);
+    each = λ k l. c.moved k (omega arith) ∙ h.each k l;
+  }
 
 -- ## Cores
 

@@ -62,12 +62,15 @@ pub(crate) fn write_bit(work: &mut [u32], at: usize, kind: Kind, field: u32, b: 
     write_record(work, at, u32::from(kind.number()), field, u32::from(b));
 }
 
-// Copies the `count` numbers at `from` to `to`: down, where the two regions may overlap, or past their end.
+// Copies the `count` numbers at `from` to `to`: down, where the two regions may overlap, or past their end. No `copy_within`: where it
+// copies up, as the terms of a bound are copied, it goes from the last number to the first, and takes half as long again.
 pub(crate) fn copy(work: &mut [u32], from: usize, to: usize, count: usize)
     requires { CopyRoom (length work.old) from to count }
     ensures kept { Kept to work.old work.new }
     ensures copied { (ys : List ℕ) → length ys ≡ count → Holds work.old from ys → Holds work.new to ys }
     ensures beyond { (k : ℕ) → to + count ≤ k → get_or work.new k 0 ≡ get_or work.old k 0 }
 {
-    work.copy_within(from..from + count, to);
+    for i in 0..count {
+        work[to + i] = work[from + i];
+    }
 }
