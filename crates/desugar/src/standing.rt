@@ -37,17 +37,28 @@ impl Standing {
         }
     }
 
-    // Those of some bits and of a byte above them.
+    // Those of a byte.
     #[tactic(auto, using(crate::proofs::StandingBits::stands_bit, crate::proofs::StandingBits::byte_bit))]
-    fn with_byte(self, byte: u8) -> Self
-        requires { (self.count ≤ 128) × (self.size ≤ 32768) }
-        ensures { (a : Bits) → Stands a self → Stands (a ++ bits_of 8 byte) result }
+    fn of_byte(byte: u8) -> Self
+        ensures { Stands (bits_of 8 byte) result }
     {
-        let mut standing = self;
+        let mut standing = Standing { count: 0, size: 0 };
         for i in 0..u8::BITS {
             standing = standing.with_bit((byte >> i) % 2 == 1);
         }
         standing
+    }
+
+    // Those of some bits and of a byte above them, which makes the term of each bit below longer by 16 records.
+    fn with_byte(self, byte: u8) -> Self
+        requires { (self.count ≤ 128) × (self.size ≤ 32768) }
+        ensures { (a : Bits) → Stands a self → Stands (a ++ bits_of 8 byte) result }
+    {
+        let above = Standing::of_byte(byte);
+        Standing {
+            count: self.count + above.count,
+            size: self.size + 16 * self.count + above.size,
+        }
     }
 
     // Those of the whole bytes of a literal.
