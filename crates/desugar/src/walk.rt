@@ -68,6 +68,7 @@ pub(crate) fn desugar_with_env(s: &[u8], work: &mut [u32], spot: Spot) -> Result
 
 // Complement, Star, LtlNext: the record goes right below its operand, wherever that lies.
 #[cycle(walk)]
+#[inline(always)]
 fn unary(kind: Kind, s: &[u8], work: &mut [u32], spot: Spot) -> Result<Walked, Refused>
     requires { Operator1 (kind_number kind) × OneReady s.now spot work.old }
     ensures { (k : Operator1 (kind_number kind)) (q : OneReady s.now spot work.old)
