@@ -23,6 +23,7 @@ pub mod UseCores
 pub mod Costs
 pub mod RuleLaws
 pub mod LeafKinds
+pub mod Numbered
 pub mod RangedCores
 pub mod LeafSteps
 pub mod Forest

@@ -3,6 +3,7 @@ use mathlib.Core.{Path.◌≡◌, Bool.Bool, Bool.true, Bool.false, List.List, L
 use Rattle.std.specs.Prelude.{ℕ, ◌+◌, ◌-◌, ◌*◌, ◌≤◌, ◌<◌, Result, Ok, Err}
 use lib.{Dec.eqb, ListN.length, ListN.get_or}
 use Rattle.expr.specs.{Answers.Answer, Answers.ok, Answers.refuse, Answers.and_then, Terms.Atom, Terms.Zero, Terms.One, Terms.Top, Terms.Dup, Terms.End, Terms.Assign, Terms.Test, Terms.Core, Terms.Where, Terms.Direct, Terms.Alias, Terms.size, Records.Record, Form.max_records, Results.record_of}
+use Rattle.literals.specs.Bits.{Bits}
 use Rattle.literals.specs.Results.{literal_bits}
 use Rattle.expr.specs.Terms as written
 use Rattle.refusals.specs.Refusals.{number_of}
@@ -19,24 +20,36 @@ use Rattle.desugar.specs.{Bindings.Env, Bindings.find_range, Meter.Draws, Meter.
 abbrev pub atom_of : Record → Atom
 atom_of h = get_or (Zero ∷ One ∷ Top ∷ Dup ∷ End ∷ Assign h.start (eqb h.number 1) ∷ Test h.start (eqb h.number 1) ∷ []) h.kind Zero
 
--- the record that a use of a range stands for. Its name and its fields are of no account
-abbrev pub record_in : Use → Record
-record_in u =
+-- the record of these numbers and literals, whether a kind and a pattern have the numbers or not. Its name and its fields are of no account
+abbrev pub numbered : (kind pattern number : ℕ) (a b : Bits) → Record
+numbered kind pattern number a b =
     record {
-      kind = kind_number u.kind;
+      kind = kind;
       name = 0;
       start = 0;
       end = 0;
-      pattern = pattern_number u.pattern;
-      number = u.number;
-      lit_a = literal_bits u.a;
-      lit_b = literal_bits u.b;
+      pattern = pattern;
+      number = number;
+      lit_a = a;
+      lit_b = b;
     }
 
--- the use of a range by the record that a head stands for, its literals taken from the bytes s
-pub record UseIn (s : List ℕ) (h : Head) (u : Use) : Type 0 where
-  pub same : use_of (record_in u) ≡ use_of (record_of s h)
-  pub rule : (r : ℕ × ℕ) (at : ℕ) → range_rule (where_of (record_in u)) (use_of (record_in u)) r at ≡ range_rule (where_of (record_of s h)) (use_of (record_of s h)) r at
+-- the record with other numbers of a kind and of a pattern
+abbrev pub with_numbers : Record → (kind pattern : ℕ) → Record
+with_numbers h kind pattern = record h { kind = kind; pattern = pattern }
+
+-- the record that a use of a range stands for
+abbrev pub record_in : Use → Record
+record_in u = numbered (kind_number u.kind) (pattern_number u.pattern) u.number (literal_bits u.a) (literal_bits u.b)
+
+-- the use of a range by a record
+pub record UsedAs (h : Record) (u : Use) : Type 0 where
+  pub same : use_of (record_in u) ≡ use_of h
+  pub rule : (r : ℕ × ℕ) (at : ℕ) → range_rule (where_of (record_in u)) (use_of (record_in u)) r at ≡ range_rule (where_of h) (use_of h) r at
+
+-- the use by the record that a head stands for, its literals taken from the bytes s
+abbrev pub UseIn : List ℕ → Head → Use → Type 0
+UseIn s h u = UsedAs (record_of s h) u
 
 -- ## Rules
 

@@ -3,6 +3,7 @@
 
 mod between;
 pub mod bindings;
+pub mod by_number;
 pub mod bytes;
 mod core_bytes;
 mod guarded;

@@ -20,4 +20,4 @@ loop-i-preserved c =
     let v = c.args.byte in
     let l = c.loop-i in
     let step = c.with_bit-standing.ensures in
-    subst (λ (b : Bits). Stands b c.with_bit-standing.result) (sym (byte_bit v l.i (omega arith))) (stands_bit (take l.i (bits_of 8 v)) (bit_at l.i v) l.invariant step.0 step.1)
+    subst (λ (b : Bits). Stands b c.with_bit-standing.result) (sym (byte_bit v l.i (omega arith))) (stands_bit (take l.i (bits_of 8 v)) (bit_at l.i v) l.invariant (omega (arith, step.0)) (omega (arith, step.1)))
