@@ -12,8 +12,7 @@ use lib.Seq.{take_all, get_or-drop}
 use Rattle.literals.specs.Bits.{Bits, bit, value_of}
 use Rattle.literals.specs.Comparing.{order_of, equal_above, looked_at, SameTop, TopDecides, StopsWhenDecided}
 use Rattle.literals.specs.Results.{ComparedAs}
-use Rattle.std.specs.Ordering.{bool_cmp, ordering_index}
-use Rattle.std.specs.Bool.{◌==◌}
+use Rattle.std.specs.Ordering.{bool_cmp}
 use Rattle.std.specs.declared.cmp.Ordering.{Ordering}
 use Rattle.std.specs.declared.cmp.Ordering.TheVariants.{Less, Equal, Greater}
 use Rattle.literals.proofs.Logic.{beq_is, ne_not}
@@ -170,18 +169,17 @@ module _ {w n : ℕ} {a b : Bits} (c : Comparing w n a b) where
 -- the loop goes down to bit i - 1
 module _ {w i : ℕ} {a b : Bits} (h : 0 < i) (l : i ≤ w) (c : Comparing w (w - i) a b) where
   pub comparing_found : {o : Ordering} {x y : Bool} → x ≡ get_or a (i - 1) false → y ≡ get_or b (i - 1) false
-      → o ≡ bool_cmp x y → true ≡ not (ordering_index o == 1) → ComparedAs w a b (record { order = o; looked = w - (i - 1) })
-  comparing_found {o} {x} {y} e f g t =
+      → not (beq x y) ≡ true → o ≡ bool_cmp x y → ComparedAs w a b (record { order = o; looked = w - (i - 1) })
+  comparing_found {o} {x} {y} e f t g =
       let place : w - (w - i + 1) ≡ i - 1 = omega arith in
       let count : w - (i - 1) ≡ w - i + 1 = omega arith in
-      rw count (go x y (rw place e) (rw place f) g)
+      rw count (comparing_differs c (omega arith) (rw place e) (rw place f) t (g ∙ by_first x y t))
     where
-      go : (x y : Bool) → x ≡ get_or a (w - (w - i + 1)) false → y ≡ get_or b (w - (w - i + 1)) false → o ≡ bool_cmp x y
-          → ComparedAs w a b (record { order = o; looked = w - i + 1 })
-      go true false e f g = comparing_differs c (omega arith) e f refl g
-      go false true e f g = comparing_differs c (omega arith) e f refl g
-      go true true e f g = absurd (true≢false (t ∙ ap (λ q. not (ordering_index q == 1)) g))
-      go false false e f g = absurd (true≢false (t ∙ ap (λ q. not (ordering_index q == 1)) g))
+      by_first : (x y : Bool) → not (beq x y) ≡ true → bool_cmp x y ≡ cond x Greater Less
+      by_first true false t = refl
+      by_first false true t = refl
+      by_first true true t = absurd (true≢false (sym t))
+      by_first false false t = absurd (true≢false (sym t))
 
 -- ## Which of the two it is
 

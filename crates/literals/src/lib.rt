@@ -135,10 +135,11 @@ impl<'a> BitSlice<'a> {
         ensures { ComparedAs width (literal_bits self.entry) (literal_bits other.entry) result }
     {
         for i in (0..width).rev() {
-            let order = self.bit(i).cmp(&other.bit(i));
-            if order != Ordering::Equal {
+            let x = self.bit(i);
+            let y = other.bit(i);
+            if x != y {
                 return Compared {
-                    order,
+                    order: x.cmp(&y),
                     looked: width - i,
                 };
             }
