@@ -3,7 +3,7 @@ use mathlib.Core.{Path.◌≡◌, Bool.Bool, Bool.cond, Bool.◌&&◌, Bool.◌|
 use Rattle.std.specs.Prelude.{ℕ, ◌+◌, ◌*◌, ◌^◌, ◌≤◌, max, Result, Ok, Err, Option, IfSome}
 use lib.{Dec.leb, Dec.ltb, Dec.eqb, ListN.length, ListN.drop}
 use Rattle.literals.specs.{Reading.Read, Reading.got, Reading.fault}
-use Rattle.expr.specs.{Answers.Answer, Answers.answered, Answers.ok, Answers.and_then, Answers.map_answer, Answers.need, Answers.buffer_after, Terms.Core, Terms.size, Records.Record, Records.stands}
+use Rattle.expr.specs.{Answers.Answer, Answers.answered, Answers.ok, Answers.refuse, Answers.and_then, Answers.map_answer, Answers.need, Answers.buffer_after, Terms.Core, Terms.size, Records.Record, Records.stands}
 use Rattle.desugar.specs.{CoreRecords.words, CoreBytes.core_record}
 use Rattle.cores.specs.{Reading.read_core_record, Reading.decode_core, Reading.read_core}
 use Rattle.refusals.specs.Refusals.{number_of}
@@ -12,6 +12,7 @@ use Rattle.refusals.specs.declared.Refused.{Refused}
 use Rattle.expr.specs.Kinds.{kind_number}
 use Rattle.cores.specs.declared.records.CoreRecord.{CoreRecord}
 use Rattle.cores.specs.declared.Counts.{Counts}
+use Rattle.cores.specs.declared.numbered.Numbered.{Numbered}
 
 -- ## One record
 
@@ -59,6 +60,18 @@ counts_of x = map_answer (λ p. (size p.0, p.1)) x
 
 abbrev pub core_answer : Result Counts Refused → Answer (ℕ × ℕ)
 core_answer r = map_answer (λ d. (d.count, d.fields)) (answered r)
+
+-- a refusal by its number
+abbrev pub numbered_of : Refused → Numbered
+numbered_of e = record { number = number_of e.refusal; place = e.place }
+
+-- what is answered where a refusal may have any number
+abbrev pub numbered_answer : {A : Type 0} → Result A Numbered → Answer A
+numbered_answer (Ok a) = ok a
+numbered_answer (Err e) = refuse e.number e.place
+
+abbrev pub numbered_counts : Result Counts Numbered → Answer (ℕ × ℕ)
+numbered_counts r = map_answer (λ d. (d.count, d.fields)) (numbered_answer r)
 
 -- a core of good form, and room for its records
 pub record Listable (s list : List ℕ) : Type 0 where

@@ -1,6 +1,7 @@
 // Cores read back from their bytes.
 #![tactic(auto)]
 
+pub mod numbered;
 pub mod records;
 
 ghost use Rattle.std.specs.Prelude.{◌≡◌, ◌≤◌};
