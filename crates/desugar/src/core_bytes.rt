@@ -1,5 +1,5 @@
 // The bytes of a core that lies in work memory: how many, and the bytes themselves.
-ghost use Rattle.std.specs.Prelude.{◌≡◌, ◌+◌, ◌*◌, ◌≤◌, ◌<◌, leb, length};
+ghost use Rattle.std.specs.Prelude.{◌≡◌, cond, ◌+◌, ◌*◌, ◌%◌, ◌≤◌, ◌<◌, leb, length};
 ghost use Rattle.literals.specs.Bits.{bit};
 ghost use Rattle.expr.specs.Terms.{Core};
 ghost use Rattle.expr.specs.Records.{map_of, stands, write_number};
@@ -52,6 +52,16 @@ fn write_number<const N: usize>(out: &mut [u8], to: usize, v: u32) -> usize
     to + N
 }
 
+// A number's byte where it stands, and else the one that is held. A function, since the compiler makes a branch of the same choice where it is stored.
+fn chosen(held: u8, v: u32) -> u8
+    ensures { result ≡ cond (stands v) (v % 256) held }
+{
+    if v == 0 {
+        return held;
+    }
+    (v % 256) as u8
+}
+
 // A number of one byte where a byte follows, without a branch on the number: a test's value is 0 as often as not, and no processor
 // foresees which.
 fn write_value(out: &mut [u8], to: usize, v: u32) -> usize
@@ -59,7 +69,7 @@ fn write_value(out: &mut [u8], to: usize, v: u32) -> usize
     ensures { Put (write_number 1 v) out.old to out.new result }
 {
     let held = out[to];
-    out[to] = if v == 0 { held } else { (v % 256) as u8 };
+    out[to] = chosen(held, v);
     to + usize::from(standing(v))
 }
 

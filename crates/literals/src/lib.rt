@@ -49,6 +49,7 @@ pub fn bit_at(bytes: &[u8], i: usize) -> bool
 
 // The literal whose length byte is at `at`.
 #[tactic(auto, using(crate::proofs::Values::read_zero, crate::proofs::Values::read_long, crate::proofs::Values::read_lacking, crate::proofs::Values::read_spare, crate::proofs::Values::read_got, crate::proofs::Values::last_place))]
+#[inline(always)]
 pub fn read_literal(s: &[u8], at: usize) -> Result<Literal, Refusal>
     requires { at ≤ length s.now }
     ensures { LiteralFound s.now at result }

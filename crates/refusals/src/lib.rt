@@ -83,11 +83,12 @@ pub enum Refusal {
     PacketTooShort = 50,
 }
 
-// A refusal, and the index of the record or packet that it is about.
+// A refusal, and the index of the record or packet that it is about. The byte comes second: first, it shares a word with what an answer's reader looks
+// at next, and the processor stalls where a byte and the rest of a word were stored apart.
 #[derive(Clone, Copy, Debug, PartialEq, Eq)]
 pub struct Refused {
-    pub refusal: Refusal,
     pub place: usize,
+    pub refusal: Refusal,
 }
 
 impl Refusal {
@@ -103,8 +104,8 @@ impl Refusal {
         ensures { result ≡ refused_at self place }
     {
         Refused {
-            refusal: self,
             place,
+            refusal: self,
         }
     }
 
