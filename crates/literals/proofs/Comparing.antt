@@ -12,7 +12,6 @@ use lib.Seq.{take_all, get_or-drop}
 use Rattle.literals.specs.Bits.{Bits, bit, value_of}
 use Rattle.literals.specs.Comparing.{order_of, equal_above, looked_at, SameTop, TopDecides, StopsWhenDecided}
 use Rattle.literals.specs.Results.{ComparedAs}
-use Rattle.std.specs.Ordering.{bool_cmp}
 use Rattle.std.specs.declared.cmp.Ordering.{Ordering}
 use Rattle.std.specs.declared.cmp.Ordering.TheVariants.{Less, Equal, Greater}
 use Rattle.literals.proofs.Logic.{beq_is, ne_not}
@@ -169,17 +168,11 @@ module _ {w n : ℕ} {a b : Bits} (c : Comparing w n a b) where
 -- the loop goes down to bit i - 1
 module _ {w i : ℕ} {a b : Bits} (h : 0 < i) (l : i ≤ w) (c : Comparing w (w - i) a b) where
   pub comparing_found : {o : Ordering} {x y : Bool} → x ≡ get_or a (i - 1) false → y ≡ get_or b (i - 1) false
-      → not (beq x y) ≡ true → o ≡ bool_cmp x y → ComparedAs w a b (record { order = o; looked = w - (i - 1) })
-  comparing_found {o} {x} {y} e f t g =
+      → not (beq x y) ≡ true → o ≡ cond x Greater Less → ComparedAs w a b (record { order = o; looked = w - (i - 1) })
+  comparing_found e f t g =
       let place : w - (w - i + 1) ≡ i - 1 = omega arith in
       let count : w - (i - 1) ≡ w - i + 1 = omega arith in
-      rw count (comparing_differs c (omega arith) (rw place e) (rw place f) t (g ∙ by_first x y t))
-    where
-      by_first : (x y : Bool) → not (beq x y) ≡ true → bool_cmp x y ≡ cond x Greater Less
-      by_first true false t = refl
-      by_first false true t = refl
-      by_first true true t = absurd (true≢false (sym t))
-      by_first false false t = absurd (true≢false (sym t))
+      rw count (comparing_differs c (omega arith) (rw place e) (rw place f) t g)
 
 -- ## Which of the two it is
 

@@ -1,7 +1,8 @@
 // Literals: bits packed in bytes, lowest bit first. A literal is given by the bytes that its bits begin in, and how many bits it has.
 #![tactic(auto)]
 
-ghost use Rattle.std.specs.Prelude.{◌≡◌, false, ◌+◌, ◌^◌, ◌≤◌, eqb, length, get_or};
+ghost use Rattle.std.specs.Prelude.{◌≡◌, false, cond, ◌+◌, ◌^◌, ◌≤◌, eqb, length, get_or};
+ghost use Rattle.std.specs.declared.cmp.Ordering.TheVariants.{Less, Greater};
 ghost use Rattle.literals.specs.Bits.{value_of, unpack};
 ghost use Rattle.literals.specs.Reading.{lent};
 ghost use Rattle.literals.specs.Results.{literal_bits, LiteralFound, ComparedAs, LentFound};
@@ -82,6 +83,17 @@ pub fn read_literal(s: &[u8], at: usize) -> Result<Literal, Refusal>
     })
 }
 
+// How two numbers stand to each other that are equal above a bit and differ in it: by that bit of the first. Of the two bits, as `cmp` asks, the loop that
+// looks for them takes a quarter more time.
+fn order_at(x: bool) -> Ordering
+    ensures { result ≡ cond x Greater Less }
+{
+    if x {
+        return Ordering::Greater;
+    }
+    Ordering::Less
+}
+
 impl<'a> BitSlice<'a> {
     // A literal of so many bits that a host lends at the front of some bytes.
     #[tactic(auto, using(crate::proofs::Values::lent_long, crate::proofs::Values::lent_lacking, crate::proofs::Values::lent_got))]
@@ -140,7 +152,7 @@ impl<'a> BitSlice<'a> {
             let y = other.bit(i);
             if x != y {
                 return Compared {
-                    order: x.cmp(&y),
+                    order: order_at(x),
                     looked: width - i,
                 };
             }
