@@ -1,9 +1,11 @@
 -- The walk of src/check.rt meets its contracts.
 use native.Mathlib.Omega.{arith}
-use mathlib.Core.Path.{ap, refl, ◌∙◌}
+use mathlib.Core.Path.{ap, refl, sym, ◌∙◌}
 use mathlib.Core.Bool.{and_assoc, ◌&&◌}
 use borrow.Author.Tests.{not-true, not-false}
-use borrow.Author.Rules.{rules}
+use Rattle.refusals.specs.Refusals.{number_of}
+use Rattle.refusals.specs.declared.Refused.{Refused}
+use Rattle.expr.specs.Answers.{refuse}
 use Rattle.expr.proofs.Slices.{part}
 use Rattle.desugar.proofs.WalkLaws.{then_refused, text_read}
 use Rattle.desugar.proofs.Dispatch.{negation_kind, if_kind, let_kind, alias_kind, unary_kind, binary_kind, childless}
@@ -141,8 +143,8 @@ test_negation-returns-in_err-a t c = λ q. passed_on _ _ _ _ _ _ c.in_err-a.fiel
 
 pub test_negation-returns-then-not-a : goal.test_negation-returns-then-not-a
 test_negation-returns-then-not-a t c = λ q.
-    let refused = negation_refused c.args.spot.place q (found c.check_with_env.new.work (one_first c.args.spot.place q) c.in_ok-a.ensures) (not-true _ c.if-not-a.true) in
-    search rules
+    negation_refused c.args.spot.place q (found c.check_with_env.new.work (one_first c.args.spot.place q) c.in_ok-a.ensures) (not-true _ c.if-not-a.true)
+    ∙ ap (λ (e : Refused). refuse (number_of e.refusal) e.place) (sym c.at.ensures)
 
 pub test_negation-returns : goal.test_negation-returns
 test_negation-returns t c = λ q. negation_done c.args.spot.place q (found c.check_with_env.new.work (one_first c.args.spot.place q) c.in_ok-a.ensures) (not-false _ c.if-not-a.false)
