@@ -9,7 +9,7 @@ use std::alloc::AllocError;
 // Why a case has no answer.
 #[derive(Clone, Copy, Debug, PartialEq, Eq)]
 pub enum CaseError {
-    // It is cut short, its operation is unknown, or it asks for more than there is room for.
+    // It is cut short, its operation is unknown, or its packets ask for more than there is room for.
     Malformed,
     OutOfMemory(AllocError),
 }

@@ -4,6 +4,7 @@
 #![tactic(auto)]
 
 use cases::{Case, CaseError, Cases};
+use operations::Memory;
 use reader::Reader;
 use std::alloc::{AllocError, Global};
 use std::{fs, io};
@@ -13,34 +14,36 @@ mod operations;
 mod reader;
 
 // Whether a case agrees. One that has no answer differs.
-fn verdict(alloc: Global, case: Result<Case<'_>, CaseError>) -> Result<bool, AllocError> {
-    match case.and_then(|case| case.agrees(alloc)) {
+fn verdict(
+    alloc: Global,
+    memory: &mut Memory,
+    case: Result<Case<'_>, CaseError>,
+) -> Result<bool, AllocError> {
+    match case.and_then(|case| case.agrees(alloc, memory)) {
         Ok(agrees) => Ok(agrees),
         Err(CaseError::Malformed) => Ok(false),
         Err(CaseError::OutOfMemory(error)) => Err(error),
     }
 }
 
-// Whether each case agrees, in their order.
-fn verdicts(alloc: Global, bytes: &[u8]) -> Result<Vec<bool>, AllocError> {
+// Runs the cases in their order. A case that differs is printed before the next one is run.
+fn report(rt: &HostRuntime, bytes: &[u8]) -> io::Result<()> {
+    let mut memory = Memory::new(rt.alloc());
+    let mut agreed: u64 = 0;
+    let mut cases: u64 = 0;
     let left = Reader { rest: bytes };
-    Cases { left }
-        .map(|case| verdict(alloc, case))
-        .try_collect(alloc)
-}
-
-fn report(rt: &impl Print, verdicts: &[bool]) -> io::Result<()> {
-    for (case, agrees) in verdicts.iter().enumerate() {
-        if !*agrees {
-            println!(rt; "differs: case {case}")?;
+    for case in (Cases { left }) {
+        if verdict(rt.alloc(), &mut memory, case)? {
+            agreed = agreed.saturating_add(1);
+        } else {
+            println!(rt; "differs: case {cases}")?;
         }
+        cases = cases.saturating_add(1);
     }
-    let agreed = verdicts.iter().filter(|agrees| **agrees).count();
-    let cases = verdicts.len();
     println!(rt; "{agreed} of {cases} cases agree")
 }
 
 fn main(rt: HostRuntime) -> io::Result<()> {
     let bytes = fs::read(&rt, "cases")?;
-    report(&rt, &verdicts(rt.alloc(), &bytes)?)
+    report(&rt, &bytes)
 }

@@ -1,13 +1,13 @@
 // What the operation of a case answers, beside what the case expects.
 use crate::cases::{Case, CaseError, Operation, refused, success};
-use crate::reader::{Reader, numbers, unpack};
+use crate::reader::{Reader, holds_numbers, numbers, unpack};
 use literals::BitSlice;
 use netkat::Answer;
 use netkat::operations::{
     netkat_check, netkat_desugar, netkat_is_test_fragment, netkat_num_fields, netkat_substitute,
 };
 use refusals::Refusal;
-use std::alloc::Global;
+use std::alloc::{AllocError, Global};
 use std::cmp::Ordering;
 
 // The memory for an answer buffer, for work memory and for a list: a call is lent the front of it.
@@ -32,16 +32,67 @@ const USED: u32 = 0xa5a5_a5a5;
 // The widest field of a range pattern.
 const MAX_RANGE_BITS: usize = 128;
 
-// The front of some memory, which a call is lent.
-fn lent<T>(memory: &mut [T], room: u32) -> Result<&mut [T], CaseError> {
-    memory.get_mut(..room as usize).ok_or(CaseError::Malformed)
+// What calls are lent the front of, and marks to compare it with. Each part is taken when a case first asks for it and kept for the next: taken anew for
+// each case, most of the time goes into pages that the system clears.
+#[derive(Drop)]
+pub struct Memory {
+    out: Vec<u8>,
+    marks: Vec<u8>,
+    work: Vec<u32>,
+    core: Vec<u8>,
+    list: Vec<u32>,
+    want: Vec<u8>,
 }
 
-// Whether memory holds what was written to its front, and marks behind it.
-fn holds<T: PartialEq>(memory: &[T], written: &[T], mark: &T) -> bool {
-    memory
-        .strip_prefix(written)
-        .is_some_and(|behind| behind.iter().all(|x| x == mark))
+impl Memory {
+    pub fn new(alloc: Global) -> Self {
+        Memory {
+            out: Vec::new(alloc),
+            marks: Vec::new(alloc),
+            work: Vec::new(alloc),
+            core: Vec::new(alloc),
+            list: Vec::new(alloc),
+            want: Vec::new(alloc),
+        }
+    }
+
+    // An answer buffer that is marked, and as many marks.
+    fn mark(&mut self) -> Result<(), AllocError> {
+        refill(&mut self.out, ROOM, MARK)?;
+        self.marks.resize(ROOM, MARK)
+    }
+
+    // Whether the answer buffer holds what was written to its front, and marks behind it.
+    fn holds(&self, written: &[u8]) -> bool {
+        match (
+            self.out.split_at_checked(written.len()),
+            self.marks.get(written.len()..),
+        ) {
+            (Some((front, behind)), Some(marks)) => front == written && behind == marks,
+            _ => false,
+        }
+    }
+}
+
+// Gives memory this length, and each of its places this value.
+fn refill<T: Copy>(memory: &mut Vec<T>, length: usize, value: T) -> Result<(), AllocError> {
+    memory.clear();
+    memory.resize(length, value)
+}
+
+// What is taken for the answer of a case whose call cannot be made. No call answers this, but a case may expect it.
+fn none() -> Answer {
+    Answer {
+        number: 0,
+        place: 1,
+        first: 0,
+        second: 0,
+    }
+}
+
+// The front of some memory, which a call is lent.
+fn lent<T>(memory: &mut [T], room: u32) -> Option<&mut [T]> {
+    memory.get_mut(..room as usize)
 }
 
 // The number of an order in a case. No `From`: neither type is this crate's.
@@ -65,21 +116,21 @@ fn compared(a: BitSlice<'_>, b: BitSlice<'_>, width: usize) -> Result<Answer, Re
 
 impl Case<'_> {
     // Whether the operation answers what is expected.
-    pub fn agrees(&self, alloc: Global) -> Result<bool, CaseError> {
+    pub fn agrees(&self, alloc: Global, memory: &mut Memory) -> Result<bool, CaseError> {
         let answer = match self.head.operation.ok_or(CaseError::Malformed)? {
             Operation::Check => netkat_check(self.term),
             Operation::TestFragment => netkat_is_test_fragment(self.term),
             Operation::FieldCount => netkat_num_fields(self.term),
-            Operation::Subrange => self.subrange()?,
+            Operation::Subrange => self.subrange().unwrap_or(none()),
             Operation::Compare => match self.comparison() {
                 Ok(answer) => answer,
                 Err(refusal) => refused(u32::from(refusal.number()), 0),
             },
-            Operation::Cost => self.cost()?,
-            Operation::Substitute => return self.substitutes(alloc),
-            Operation::Desugar => return self.desugars(alloc),
-            Operation::ReadCore => return self.reads_core(alloc),
-            Operation::RunPackets => return self.runs_packets(alloc),
+            Operation::Cost => self.cost().unwrap_or(none()),
+            Operation::Substitute => return self.substitutes(memory),
+            Operation::Desugar => return self.desugars(memory),
+            Operation::ReadCore => return self.reads_core(memory),
+            Operation::RunPackets => return self.runs_packets(alloc, memory),
         };
         Ok(answer == self.head.expected)
     }
@@ -123,53 +174,62 @@ impl Case<'_> {
     }
 
     // Whether a Substitute agrees: its answer, and every byte of the memory whose front it is lent.
-    fn substitutes(&self, alloc: Global) -> Result<bool, CaseError> {
-        let mut memory = vec![in alloc; MARK; ROOM]?;
-        let out = lent(&mut memory, self.head.room)?;
-        let got = netkat_substitute(self.term, self.head.name, self.replacement, out);
-        Ok(got == self.head.expected && holds(&memory, self.written, &MARK))
+    fn substitutes(&self, memory: &mut Memory) -> Result<bool, CaseError> {
+        memory.mark()?;
+        let got = match lent(&mut memory.out, self.head.room) {
+            Some(out) => netkat_substitute(self.term, self.head.name, self.replacement, out),
+            None => none(),
+        };
+        Ok(got == self.head.expected && memory.holds(self.written))
     }
 
     // The same of a Desugar.
-    fn desugars(&self, alloc: Global) -> Result<bool, CaseError> {
-        let mut used = vec![in alloc; USED; WORK]?;
-        let work = lent(&mut used, self.head.work)?;
-        let mut memory = vec![in alloc; MARK; ROOM]?;
-        let out = lent(&mut memory, self.head.room)?;
-        let got = netkat_desugar(self.term, self.head.allowance, work, out);
-        Ok(got == self.head.expected && holds(&memory, self.written, &MARK))
+    fn desugars(&self, memory: &mut Memory) -> Result<bool, CaseError> {
+        memory.mark()?;
+        refill(&mut memory.work, WORK, USED)?;
+        let work = lent(&mut memory.work, self.head.work);
+        let out = lent(&mut memory.out, self.head.room);
+        let got = match (work, out) {
+            (Some(work), Some(out)) => netkat_desugar(self.term, self.head.allowance, work, out),
+            _ => none(),
+        };
+        Ok(got == self.head.expected && memory.holds(self.written))
     }
 
     // Whether a core that is read back agrees: its answer, and every number of the memory whose front it is lent.
-    fn reads_core(&self, alloc: Global) -> Result<bool, CaseError> {
-        let mut bytes = vec![in alloc; 0; CORE]?;
-        let core = unpack(self.term, &mut bytes)?;
-        let mut want = vec![in alloc; MARK; 4 * LIST]?;
-        unpack(self.replacement, &mut want)?;
-        let mut memory = vec![in alloc; USED; LIST]?;
-        let list = lent(&mut memory, self.head.room)?;
-        let got = netkat::records::netkat_read_core(core, list);
-        Ok(got == self.head.expected && memory == numbers(alloc, &want)?)
+    fn reads_core(&self, memory: &mut Memory) -> Result<bool, CaseError> {
+        refill(&mut memory.core, CORE, 0)?;
+        refill(&mut memory.want, 4 * LIST, MARK)?;
+        refill(&mut memory.list, LIST, USED)?;
+        let end = unpack(self.term, &mut memory.core);
+        unpack(self.replacement, &mut memory.want);
+        let got = match (
+            memory.core.get(..end),
+            lent(&mut memory.list, self.head.room),
+        ) {
+            (Some(core), Some(list)) => netkat::records::netkat_read_core(core, list),
+            _ => none(),
+        };
+        Ok(got == self.head.expected && holds_numbers(&memory.list, &memory.want))
     }
 
-    // Whether packets agree that go through a core: the answer, and the marks behind the list, which is scratch. The lengths of the packets
-    // stand before them.
-    fn runs_packets(&self, alloc: Global) -> Result<bool, CaseError> {
-        let mut bytes = vec![in alloc; 0; CORE]?;
-        let core = unpack(self.term, &mut bytes)?;
+    // Whether packets agree that go through a core: the answer, and the marks behind the list, which is scratch. A core or a list for which there is no
+    // room never does. The lengths of the packets stand before them.
+    fn runs_packets(&self, alloc: Global, memory: &mut Memory) -> Result<bool, CaseError> {
+        refill(&mut memory.core, CORE, 0)?;
+        refill(&mut memory.list, LIST, USED)?;
+        let end = unpack(self.term, &mut memory.core);
+        let core = memory.core.get(..end).ok_or(CaseError::Malformed)?;
+        let list = lent(&mut memory.list, self.head.room).ok_or(CaseError::Malformed)?;
         let count = self.head.allowance as usize;
-        if PACKETS < count {
-            return Err(CaseError::Malformed);
-        }
-        let (lengths, packets) = self
-            .replacement
-            .split_at_checked(4 * count)
-            .ok_or(CaseError::Malformed)?;
-        let lengths = numbers(alloc, lengths)?;
-        let mut memory = vec![in alloc; USED; LIST]?;
-        let list = lent(&mut memory, self.head.room)?;
-        let got = netkat::run::netkat_run_packets(core, list, packets, &lengths);
-        let mut behind = memory.iter().skip(self.head.room as usize);
+        let got = match self.replacement.split_at_checked(4 * count) {
+            Some((lengths, packets)) if count <= PACKETS => {
+                let lengths = numbers(alloc, lengths)?;
+                netkat::run::netkat_run_packets(core, list, packets, &lengths)
+            }
+            _ => none(),
+        };
+        let mut behind = memory.list.iter().skip(self.head.room as usize);
         Ok(got == self.head.expected && behind.all(|n| *n == USED))
     }
 }

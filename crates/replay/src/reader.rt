@@ -79,8 +79,8 @@ fn fill(memory: &mut [u8], bytes: &[u8]) {
     }
 }
 
-// What groups stand for, in the front of some memory: each group behind the end of the one before, as far as there is room.
-pub fn unpack<'a>(groups: &[u8], memory: &'a mut [u8]) -> Result<&'a [u8], CaseError> {
+// What groups stand for, in the front of some memory: each group behind the end of the one before, as far as there is room. Gives the last end.
+pub fn unpack(groups: &[u8], memory: &mut [u8]) -> usize {
     let mut end = 0;
     let left = Reader { rest: groups };
     let groups = Groups { left };
@@ -91,11 +91,21 @@ pub fn unpack<'a>(groups: &[u8], memory: &'a mut [u8]) -> Result<&'a [u8], CaseE
         }
         end = next;
     }
-    memory.get(..end).ok_or(CaseError::Malformed)
+    end
 }
 
 // The numbers whose bytes these are, four each.
 pub fn numbers(alloc: Global, bytes: &[u8]) -> Result<Vec<u32>, AllocError> {
     let (chunks, _) = bytes.as_chunks::<4>();
     chunks.iter().map(|b| u32::from_le_bytes(*b)).collect(alloc)
+}
+
+// Whether these are the numbers whose bytes those are, four each.
+pub fn holds_numbers(numbers: &[u32], bytes: &[u8]) -> bool {
+    let (chunks, _) = bytes.as_chunks::<4>();
+    numbers.len() == chunks.len()
+        && numbers
+            .iter()
+            .zip(chunks)
+            .all(|(n, b)| *n == u32::from_le_bytes(*b))
 }
