@@ -83,8 +83,8 @@ pub enum Refusal {
     PacketTooShort = 50,
 }
 
-// A refusal, and the index of the record or packet that it is about. The byte comes second: first, it shares a word with what an answer's reader looks
-// at next, and the processor stalls where a byte and the rest of a word were stored apart.
+// A refusal, and the index of the record or packet that it is about. The byte stands second: in front, it shares the answer's word with the index that
+// a walk reads next, and the processor waits where a byte and the rest of a word were stored apart.
 #[derive(Clone, Copy, Debug, PartialEq, Eq)]
 pub struct Refused {
     pub place: usize,
